@@ -1,0 +1,55 @@
+-- BA warns the CPU and AEC takes the bus (Bauer 3.6.1).
+use Prim.Native.Nat.{ℕ, zero, suc}
+use mathlib.Core.Bool.{Bool, true, false, not, _&&_, _||_, cond}
+use lib.Dec.{eqb}
+use lib.Bits.{bitAnd}
+use lib.IntN.{ℤ, pos, negsuc}
+use Rattle.schedule.specs.Diagram.{happens, firstPhase, secondPhase}
+use Rattle.schedule.specs.Requests.{maskAt}
+use Rattle.arbitration.specs.declared.Bus.{Bus}
+
+-- 01, power-up: clock 0, AEC counter 3
+unfoldable pub fresh : Bus
+fresh = record { clock = pos 0; fall = pos 0; rise = pos 0; aec = pos 3; balow = false; aeclow = false }
+
+-- Bauer 3.8.1: a sprite with DMA on whose slots are near
+unfoldable pub spriteAsks : ℕ → ℕ → Bool
+spriteAsks dma cycle = not (eqb (bitAnd dma (maskAt cycle)) 0)
+
+-- Bauer 3.6.1: the matrix asks by a low BA output, a sprite by its DMA
+unfoldable pub requested : Bool → ℕ → ℕ → Bool
+requested ba dma cycle = not ba || spriteAsks dma cycle
+
+-- 01, Arbitration: a request counts down to −1
+abbrev pub down : ℤ → ℤ
+down (negsuc n) = negsuc n
+down (pos zero) = negsuc 0
+down (pos (suc n)) = pos n
+
+-- 01, Arbitration: no request sets 3; so AEC falls in the fourth cycle of a request (Bauer 3.6.1)
+unfoldable pub aecAfter : ℤ → Bool → ℤ
+aecAfter aec asked = cond asked (down aec) (pos 3)
+
+-- 01, Arbitration: AEC is low below 0
+unfoldable pub low : ℤ → Bool
+low (negsuc n) = true
+low (pos n) = false
+
+-- 01, Arbitration: when BA falls or rises here, that edge's clock field takes the present clock
+unfoldable pub arbitrated : Bus → Bool → Bus
+arbitrated b asked =
+    record {
+      clock = b .clock;
+      fall = cond (asked && not (b .balow)) (b .clock) (b .fall);
+      rise = cond (not asked && b .balow) (b .clock) (b .rise);
+      aec = aecAfter (b .aec) asked;
+      balow = asked;
+      aeclow = low (aecAfter (b .aec) asked);
+    }
+
+-- 01, Arbitration: the DMA mask of the cycle before counts in the two DMA phases
+unfoldable pub phi1Mask : ℕ → ℕ → ℕ → ℕ
+phi1Mask dma previous cycle = cond (happens firstPhase cycle || happens secondPhase cycle) previous dma
+
+unfoldable pub phi1High : Bool → ℕ → ℕ → ℕ → Bool
+phi1High ba dma previous cycle = ba && not (spriteAsks (phi1Mask dma previous cycle) cycle)

@@ -1,0 +1,101 @@
+// Who has the bus: the request, BA, the AEC counter, and the clocks of BA's edges.
+ghost use mathlib.Core.Path.{_≡_};
+ghost use mathlib.Core.Bool.{Bool, cond};
+ghost use lib.IntN.{ℤ};
+ghost use Rattle.arbitration.specs.Bus.{fresh, spriteAsks, requested, aecAfter, low, arbitrated, phi1Mask, phi1High};
+
+pub struct Bus {
+    pub clock: i64,
+    pub fall: i64,
+    pub rise: i64,
+    pub aec: i8,
+    pub balow: bool,
+    pub aeclow: bool,
+}
+
+// Whether a sprite with DMA is scheduled in this cycle.
+pub fn sprite_asks(dma: u8, cycle: u16) -> bool
+    ensures { λ r. ⌜ r ≡ spriteAsks dma cycle ⌝ }
+{
+    dma & schedule::mask(cycle) != 0
+}
+
+// The bus is asked for by the matrix, whose BA output is low then, or by a sprite.
+pub fn request(ba: bool, dma: u8, cycle: u16) -> bool
+    ensures { λ r. ⌜ r ≡ requested ba dma cycle ⌝ }
+{
+    !ba | sprite_asks(dma, cycle)
+}
+
+// One less, and -1 stays.
+fn aec_down(aec: i8) -> i8
+    ensures { λ r. ⌜ r ≡ aecAfter aec Bool.true ⌝ }
+{
+    if aec < 0 { aec } else { aec - 1 }
+}
+
+pub fn aec_after(aec: i8, asked: bool) -> i8
+    ensures { λ r. ⌜ r ≡ aecAfter aec asked ⌝ }
+{
+    if asked { aec_down(aec) } else { 3 }
+}
+
+pub fn is_low(aec: i8) -> bool
+    ensures { λ r. ⌜ r ≡ low aec ⌝ }
+{
+    aec < 0
+}
+
+// The clock of an edge: the present one where the edge is here.
+pub fn edge_clock(here: bool, clock: i64, old: i64) -> i64
+    ensures { λ r. ⌜ r ≡ cond here clock old ⌝ }
+{
+    if here { clock } else { old }
+}
+
+// The mask that counts in the first clock phase: DMA that starts in this cycle is not in it yet.
+pub fn phi1_mask(dma: u8, previous: u8, cycle: u16) -> u8
+    ensures { λ r. ⌜ r ≡ phi1Mask dma previous cycle ⌝ }
+{
+    let starting = schedule::first_phase(cycle) | schedule::second_phase(cycle);
+    if starting { previous } else { dma }
+}
+
+pub fn ba_high_at_phi1(ba: bool, dma: u8, previous: u8, cycle: u16) -> bool
+    ensures { λ r. ⌜ r ≡ phi1High ba dma previous cycle ⌝ }
+{
+    ba & !sprite_asks(phi1_mask(dma, previous, cycle), cycle)
+}
+
+impl Bus {
+    pub fn new() -> Self
+        ensures { λ r. ⌜ r ≡ fresh ⌝ }
+    {
+        Self {
+            clock: 0,
+            fall: 0,
+            rise: 0,
+            aec: 3,
+            balow: false,
+            aeclow: false,
+        }
+    }
+
+    // One cycle's arbitration at the present clock.
+    pub fn arbitrate(self, asked: bool) -> Self
+        ensures { λ r. ⌜ r ≡ arbitrated self asked ⌝ }
+    {
+        let aec = aec_after(self.aec, asked);
+        let aeclow = is_low(aec);
+        let fall = edge_clock(asked & !self.balow, self.clock, self.fall);
+        let rise = edge_clock(!asked & self.balow, self.clock, self.rise);
+        Bus {
+            clock: self.clock,
+            fall: fall,
+            rise: rise,
+            aec: aec,
+            balow: asked,
+            aeclow: aeclow,
+        }
+    }
+}

@@ -1,0 +1,11 @@
+use mathlib.Core.Path.{refl}
+use Rattle.schedule.specs.Diagram.{happens}
+use Rattle.schedule.proofs.line_ends.Statement.{statement}
+use Rattle.schedule.proofs.line_ends.Tie as tie
+
+returns : tie.Need-returns
+unfolding happens
+returns c = refl
+
+pub line-ends-spec : {M : Type 1} → statement M
+line-ends-spec = tie.close (tie.spec returns)

@@ -1,0 +1,84 @@
+-- The timing diagram of a line (Bauer 3.6.3) as one table: each event and the cycles in which it happens.
+-- The rules of the other crates name these events, never a cycle's number.
+use Prim.Native.Nat.{ℕ, zero, suc}
+use mathlib.Core.Bool.{Bool, true, false, _&&_, _||_, cond}
+use lib.Dec.{eqb, leb}
+use Rattle.schedule.specs.Kind.{lastCycle, firstPointer, pointerSlot, dataSlot}
+
+pub data Event : Type 0 where
+  lineBegins frameEnds : Event
+  matrixRequest vcLoad accessChosen characterAccess graphicsAccess lateIdle accessEnds graphicsCleared rowEnds : Event
+  crunch mcbaseStep firstPhase secondPhase mcLoad : Event
+  mainRemembered left40 left38 right38 right40 lineEnds : Event
+  pointerOf dataOf : ℕ → Event
+
+-- in one cycle, or from one cycle to another
+pub data Cycles : Type 0 where
+  at : ℕ → Cycles
+  from : ℕ → ℕ → Cycles
+
+abbrev pub diagram : Event → Cycles
+-- the beam
+diagram lineBegins = at 1  -- 01, tick 3: the raster goes on
+diagram frameEnds = at 2  -- 01, tick 4: raster 0 after the last line
+diagram lineEnds = at lastCycle  -- Bauer 3.9 rules 2 and 3
+-- the matrix and the graphics
+diagram matrixRequest = from 12 54  -- Bauer 3.7.2 rule 3: BA low on a bad line
+diagram vcLoad = at 14  -- Bauer 3.7.2 rule 2
+diagram accessChosen = at 15  -- 01, tick 8; departs, DIFFERENCES 1
+diagram characterAccess = from 15 54  -- Bauer 3.6.3: c-accesses
+diagram graphicsAccess = from 16 55  -- Bauer 3.6.3: g-accesses
+diagram lateIdle = from 18 55  -- fetch.rs: where an idle access may read 0x38FF
+diagram accessEnds = at 55  -- 01, tick 7
+diagram graphicsCleared = at 56  -- 01, tick 8
+diagram rowEnds = at 58  -- Bauer 3.7.2 rule 5
+-- the sprites' counters
+diagram crunch = at 15  -- sprite_timing.rs: a Y-expand write that crunches
+diagram mcbaseStep = at 16  -- Bauer 3.8.1 rules 7 and 8; departs, DIFFERENCES 3
+diagram firstPhase = at 55  -- Bauer 3.8.1 rules 2 and 3
+diagram secondPhase = at 56  -- Bauer 3.8.1 rule 3
+diagram mcLoad = at firstPointer  -- Bauer 3.8.1 rule 4
+-- the border's compares: X 24 and 31, 335 and 344 (Bauer 3.9)
+diagram mainRemembered = from 16 17  -- 01, tick 8
+diagram left40 = at 17
+diagram left38 = at 18
+diagram right38 = at 56
+diagram right40 = at 57
+-- the sprites' slots: pointer and byte 2, then bytes 1 and 0
+diagram (pointerOf n) = at (pointerSlot n)  -- Bauer 3.6.3: p-access and first s-access
+diagram (dataOf n) = at (dataSlot n)  -- Bauer 3.6.3: second and third s-access
+
+abbrev pub during : Cycles → ℕ → Bool
+during (at n) c = eqb c n
+during (from a b) c = leb a c && leb c b
+
+unfoldable pub happens : Event → ℕ → Bool
+happens e c = during (diagram e) c
+
+-- a cycle of the line, and no other number
+abbrev pub onLine : ℕ → Bool
+onLine c = leb c lastCycle && leb 1 c
+
+-- one of the first n sprites has its slot in cycle c
+abbrev pub anySlot : (ℕ → Event) → ℕ → ℕ → Bool
+anySlot slot zero c = false
+anySlot slot (suc n) c = during (diagram (slot n)) c || anySlot slot n c
+
+-- one of the eight sprites has its pointer slot, or its data slot, in cycle c
+unfoldable pub pointerTime : ℕ → Bool
+pointerTime c = onLine c && anySlot pointerOf 8 c
+
+unfoldable pub dataTime : ℕ → Bool
+dataTime c = onLine c && anySlot dataOf 8 c
+
+-- the sprite whose slot is in cycle c: 0 where none has one
+abbrev pub slotBelow : ℕ → ℕ → ℕ
+slotBelow zero c = 0
+slotBelow (suc n) c = cond (during (diagram (pointerOf n)) c || during (diagram (dataOf n)) c) n (slotBelow n c)
+
+unfoldable pub slotSprite : ℕ → ℕ
+slotSprite c = cond (onLine c) (slotBelow 8 c) 0
+
+-- 01, tick 3, 4 and 8: in these cycles the slot comes after the cycle's arbitration; elsewhere it comes before (tick 5)
+unfoldable pub slotAfterBus : ℕ → Bool
+slotAfterBus c = during (diagram lineBegins) c || during (diagram frameEnds) c || during (diagram mcLoad) c

@@ -1,0 +1,261 @@
+// The schedule of a line: when each event happens, which sprites ask for the bus, and how many have DMA.
+ghost use mathlib.Core.Path.{_≡_};
+ghost use mathlib.Core.Bool.{Bool};
+ghost use Rattle.schedule.specs.Diagram.{Event, lineBegins, frameEnds, matrixRequest, vcLoad, accessChosen, characterAccess, graphicsAccess, lateIdle, accessEnds, graphicsCleared, rowEnds, crunch, mcbaseStep, firstPhase, secondPhase, mcLoad, mainRemembered, left40, left38, right38, right40, lineEnds, happens, pointerTime, dataTime, slotSprite, slotAfterBus};
+ghost use Rattle.schedule.specs.Requests.{maskAt, spritesIn};
+
+// The sprites that ask in each cycle, sprite k at bit k. No cycle has the number 0.
+const MASKS: [u8; 64] = [
+    0x00,
+    0x18,
+    0x38,
+    0x30,
+    0x70,
+    0x60,
+    0xE0,
+    0xC0,
+    0xC0,
+    0x80,
+    0x80,
+    0,
+    0,
+    0,
+    0,
+    0,
+    0,
+    0,
+    0,
+    0,
+    0,
+    0,
+    0,
+    0,
+    0,
+    0,
+    0,
+    0,
+    0,
+    0,
+    0,
+    0,
+    0,
+    0,
+    0,
+    0,
+    0,
+    0,
+    0,
+    0,
+    0,
+    0,
+    0,
+    0,
+    0,
+    0,
+    0,
+    0,
+    0,
+    0,
+    0,
+    0,
+    0,
+    0,
+    0,
+    0x01,
+    0x01,
+    0x03,
+    0x03,
+    0x07,
+    0x06,
+    0x0E,
+    0x0C,
+    0x1C,
+];
+
+// The sprites that ask for the bus in a cycle; none for a number that is no cycle.
+pub fn mask(cycle: u16) -> u8
+    ensures { λ r. ⌜ r ≡ maskAt cycle ⌝ }
+{
+    if cycle < 64 { MASKS[cycle as usize] } else { 0 }
+}
+
+// How many sprites have DMA on.
+pub fn sprites_in(dma: u8) -> u32
+    ensures { λ r. ⌜ r ≡ spritesIn dma ⌝ }
+{
+    u8::count_ones(dma)
+}
+
+// Some sprite's pointer slot is in this cycle: every odd one to 9, every even one from 58.
+pub fn pointer_time(cycle: u16) -> bool
+    ensures { λ r. ⌜ r ≡ pointerTime cycle ⌝ }
+{
+    ((cycle <= 9) & (cycle % 2 == 1)) | ((cycle <= 62) & (58 <= cycle) & (cycle % 2 == 0))
+}
+
+// Some sprite's data slot is in this cycle: the one after each pointer slot.
+pub fn data_time(cycle: u16) -> bool
+    ensures { λ r. ⌜ r ≡ dataTime cycle ⌝ }
+{
+    ((cycle <= 10) & (2 <= cycle) & (cycle % 2 == 0))
+        | ((cycle <= 63) & (59 <= cycle) & (cycle % 2 == 1))
+}
+
+// The sprite whose slot this cycle holds; 0 where it holds none.
+pub fn slot_sprite(cycle: u16) -> usize
+    ensures { λ r. ⌜ r ≡ slotSprite cycle ⌝ }
+{
+    if cycle < 1 {
+        return 0;
+    }
+    if cycle <= 10 {
+        return ((cycle + 5) / 2) as usize;
+    }
+    if cycle < 58 {
+        return 0;
+    }
+    if cycle <= 63 {
+        return ((cycle - 58) / 2) as usize;
+    }
+    0
+}
+
+// The slots of cycles 1, 2 and 58 come after their cycle's arbitration.
+pub fn slot_after_bus(cycle: u16) -> bool
+    ensures { λ r. ⌜ r ≡ slotAfterBus cycle ⌝ }
+{
+    (cycle == 1) | (cycle == 2) | (cycle == 58)
+}
+
+// Each event of the diagram, as a test of the cycle.
+pub fn line_begins(cycle: u16) -> bool
+    ensures { λ r. ⌜ r ≡ happens lineBegins cycle ⌝ }
+{
+    cycle == 1
+}
+
+pub fn frame_ends(cycle: u16) -> bool
+    ensures { λ r. ⌜ r ≡ happens frameEnds cycle ⌝ }
+{
+    cycle == 2
+}
+
+pub fn matrix_request(cycle: u16) -> bool
+    ensures { λ r. ⌜ r ≡ happens matrixRequest cycle ⌝ }
+{
+    (12 <= cycle) & (cycle <= 54)
+}
+
+pub fn vc_load(cycle: u16) -> bool
+    ensures { λ r. ⌜ r ≡ happens vcLoad cycle ⌝ }
+{
+    cycle == 14
+}
+
+pub fn access_chosen(cycle: u16) -> bool
+    ensures { λ r. ⌜ r ≡ happens accessChosen cycle ⌝ }
+{
+    cycle == 15
+}
+
+pub fn character_access(cycle: u16) -> bool
+    ensures { λ r. ⌜ r ≡ happens characterAccess cycle ⌝ }
+{
+    (15 <= cycle) & (cycle <= 54)
+}
+
+pub fn graphics_access(cycle: u16) -> bool
+    ensures { λ r. ⌜ r ≡ happens graphicsAccess cycle ⌝ }
+{
+    (16 <= cycle) & (cycle <= 55)
+}
+
+pub fn late_idle(cycle: u16) -> bool
+    ensures { λ r. ⌜ r ≡ happens lateIdle cycle ⌝ }
+{
+    (18 <= cycle) & (cycle <= 55)
+}
+
+pub fn access_ends(cycle: u16) -> bool
+    ensures { λ r. ⌜ r ≡ happens accessEnds cycle ⌝ }
+{
+    cycle == 55
+}
+
+pub fn graphics_cleared(cycle: u16) -> bool
+    ensures { λ r. ⌜ r ≡ happens graphicsCleared cycle ⌝ }
+{
+    cycle == 56
+}
+
+pub fn row_ends(cycle: u16) -> bool
+    ensures { λ r. ⌜ r ≡ happens rowEnds cycle ⌝ }
+{
+    cycle == 58
+}
+
+pub fn crunch(cycle: u16) -> bool
+    ensures { λ r. ⌜ r ≡ happens crunch cycle ⌝ }
+{
+    cycle == 15
+}
+
+pub fn mcbase_step(cycle: u16) -> bool
+    ensures { λ r. ⌜ r ≡ happens mcbaseStep cycle ⌝ }
+{
+    cycle == 16
+}
+
+pub fn first_phase(cycle: u16) -> bool
+    ensures { λ r. ⌜ r ≡ happens firstPhase cycle ⌝ }
+{
+    cycle == 55
+}
+
+pub fn second_phase(cycle: u16) -> bool
+    ensures { λ r. ⌜ r ≡ happens secondPhase cycle ⌝ }
+{
+    cycle == 56
+}
+
+pub fn mc_load(cycle: u16) -> bool
+    ensures { λ r. ⌜ r ≡ happens mcLoad cycle ⌝ }
+{
+    cycle == 58
+}
+
+pub fn main_remembered(cycle: u16) -> bool
+    ensures { λ r. ⌜ r ≡ happens mainRemembered cycle ⌝ }
+{
+    (16 <= cycle) & (cycle <= 17)
+}
+
+pub fn left40(cycle: u16) -> bool
+    ensures { λ r. ⌜ r ≡ happens left40 cycle ⌝ }
+{
+    cycle == 17
+}
+
+pub fn left38(cycle: u16) -> bool
+    ensures { λ r. ⌜ r ≡ happens left38 cycle ⌝ }
+{
+    cycle == 18
+}
+
+pub fn right38(cycle: u16) -> bool
+    ensures { λ r. ⌜ r ≡ happens right38 cycle ⌝ }
+{
+    cycle == 56
+}
+
+pub fn right40(cycle: u16) -> bool
+    ensures { λ r. ⌜ r ≡ happens right40 cycle ⌝ }
+{
+    cycle == 57
+}
+
+pub fn line_ends(cycle: u16) -> bool
+    ensures { λ r. ⌜ r ≡ happens lineEnds cycle ⌝ }
+{
+    cycle == 63
+}
