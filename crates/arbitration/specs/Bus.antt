@@ -1,9 +1,9 @@
 -- BA warns the CPU and AEC takes the bus (Bauer 3.6.1).
-use Prim.Native.Nat.{ℕ, zero, suc}
+use Prim.Native.Nat.{ℕ, zero, suc, _≤_}
 use mathlib.Core.Bool.{Bool, true, false, not, _&&_, _||_, cond}
 use lib.Dec.{eqb}
 use lib.Bits.{bitAnd}
-use lib.IntN.{ℤ, pos, negsuc}
+use lib.IntN.{ℤ, pos, negsuc, _+ℤ_}
 use Rattle.schedule.specs.Diagram.{happens, firstPhase, secondPhase}
 use Rattle.schedule.specs.Requests.{maskAt}
 use Rattle.arbitration.specs.declared.Bus.{Bus}
@@ -11,6 +11,15 @@ use Rattle.arbitration.specs.declared.Bus.{Bus}
 -- 01, power-up: clock 0, AEC counter 3
 unfoldable pub fresh : Bus
 fresh = record { clock = pos 0; fall = pos 0; rise = pos 0; aec = pos 3; balow = false; aeclow = false }
+
+-- 01, States we accept: a clock is 0 to 2 ^ 62
+abbrev pub inRange : ℤ → Type 0
+inRange (pos n) = n ≤ 4611686018427387904
+inRange (negsuc n) = ⊥
+
+-- 01, tick 1: clock +2
+unfoldable pub clockOn : ℤ → ℤ
+clockOn clock = clock +ℤ pos 2
 
 -- Bauer 3.8.1: a sprite with DMA on whose slots are near
 unfoldable pub spriteAsks : ℕ → ℕ → Bool

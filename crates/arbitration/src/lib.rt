@@ -2,7 +2,7 @@
 ghost use mathlib.Core.Path.{_≡_};
 ghost use mathlib.Core.Bool.{Bool, cond};
 ghost use lib.IntN.{ℤ};
-ghost use Rattle.arbitration.specs.Bus.{fresh, spriteAsks, requested, aecAfter, low, arbitrated, phi1Mask, phi1High};
+ghost use Rattle.arbitration.specs.Bus.{fresh, inRange, clockOn, spriteAsks, requested, aecAfter, low, arbitrated, phi1Mask, phi1High};
 
 pub struct Bus {
     pub clock: i64,
@@ -11,6 +11,14 @@ pub struct Bus {
     pub aec: i8,
     pub balow: bool,
     pub aeclow: bool,
+}
+
+// The clock of the next cycle: it counts half cycles.
+pub fn clock_on(clock: i64) -> i64
+    requires { ⌜ inRange clock ⌝ }
+    ensures { λ r. ⌜ r ≡ clockOn clock ⌝ }
+{
+    clock + 2
 }
 
 // Whether a sprite with DMA is scheduled in this cycle.

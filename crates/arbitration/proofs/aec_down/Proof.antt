@@ -1,19 +1,20 @@
+use Rattle.arbitration.specs.Bus.{aecAfter}
+use mir.Facts.{toZ-ofZ}
+use Rattle.arbitration.proofs.Counting.{falls, falls-fits, stays}
 use Rattle.arbitration.proofs.aec_down.Statement.{statement}
 use Rattle.arbitration.proofs.aec_down.Tie as tie
-use Rattle.arbitration.proofs.aec_down.Reads as reads
-use Rattle.arbitration.proofs.aec_down.Lts as lts
 
--- src/lib.rt:34:31
 sub-result : tie.Need-sub-result
-sub-result c = ?
+unfolding aecAfter
+sub-result c = let t = rw (toZ-ofZ (c .before .fits .aec)) at (c .if1 .left) in rw (toZ-ofZ (c .before .fits .aec), falls (c .before .args .aec) t) (falls-fits (c .before .args .aec) (c .before .fits .aec))
 
--- src/lib.rt:31:1
 returns : tie.Need-returns
-returns c = ?
+unfolding aecAfter
+returns c = let t = rw (toZ-ofZ (c .before .fits .aec)) at (c .if1 .taken) in rw (toZ-ofZ (c .before .fits .aec)) (stays (c .before .args .aec) t)
 
--- src/lib.rt:31:1
 returns-2 : tie.Need-returns-2
-returns-2 c = ?
+unfolding aecAfter
+returns-2 c = let t = rw (toZ-ofZ (c .before .fits .aec)) at (c .if1 .left) in rw (toZ-ofZ (c .before .fits .aec), falls (c .before .args .aec) t) (toZ-ofZ (falls-fits (c .before .args .aec) (c .before .fits .aec)))
 
 pub aec-down-spec : {M : Type 1} → statement M
 aec-down-spec = tie.close (tie.spec sub-result returns returns-2)

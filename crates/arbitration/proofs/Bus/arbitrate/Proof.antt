@@ -1,31 +1,36 @@
+use Rattle.laws.proofs.Signs.{back8, back64}
+use Rattle.arbitration.specs.Bus.{arbitrated, low}
 use borrow.Author.Needs.{needs}
 use Rattle.arbitration.proofs.Bus.arbitrate.Statement.{statement}
 use Rattle.arbitration.proofs.Bus.arbitrate.Tie as tie
-use Rattle.arbitration.proofs.Bus.arbitrate.Reads as reads
-use Rattle.arbitration.proofs.Bus.arbitrate.Lts as lts
-use Rattle.arbitration.proofs.aec_after.Reads as aec-after-reads
-use Rattle.arbitration.proofs.edge_clock.Reads as edge-clock-reads
-use Rattle.arbitration.proofs.is_low.Reads as is-low-reads
 
--- src/lib.rt:88:13
 aec-after-requires : tie.Need-aec-after-requires
 aec-after-requires c κs = search needs
 
--- src/lib.rt:89:13
 is-low-requires : tie.Need-is-low-requires
 is-low-requires c κs = search needs
 
--- src/lib.rt:90:13
 edge-clock-requires : tie.Need-edge-clock-requires
 edge-clock-requires c κs = search needs
 
--- src/lib.rt:91:13
 edge-clock-requires-2 : tie.Need-edge-clock-requires-2
 edge-clock-requires-2 c κs = search needs
 
--- src/lib.rt:85:5
 returns : tie.Need-returns
-returns c = ?
+unfolding arbitrated
+returns c = let s = c .before .before .before .before .before .before .before .before .before .before .before .before .args .self in
+    let g = c .before .before .before .before .before .before .before .before .before .before .before .struct-told .given in
+    let fall = c .before .before .before .before .before .edge-clock in
+    let rise = c .before .edge-clock2 in
+    let low = c .before .before .before .before .before .before .before .before .before .is-low in
+    let aec = c .before .before .before .before .before .before .before .before .before .before .aec-after in
+    let clock = back64 (s .clock) (g .0 .1) in
+    let fell = back64 (s .fall) (g .1 .0 .1) in
+    let rose = back64 (s .rise) (g .1 .1 .0 .1) in
+    let count = back8 (s .aec) (g .1 .1 .1 .0 .1) in
+    let counted = back8 (aec .result) (aec .ok) in
+    rw (clock, back64 (fall .result) (fall .ok), back64 (rise .result) (rise .ok), counted)
+    (simp (simp counted at (low .ensures), simp count at (aec .ensures), simp (clock, fell) at (fall .ensures), simp (clock, rose) at (rise .ensures)))
 
 pub arbitrate-spec : {M : Type 1} → statement M
 arbitrate-spec =
