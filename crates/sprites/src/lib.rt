@@ -1,0 +1,297 @@
+// The eight sprites' counters: DMA, MCBASE, MC, the expansion flip-flops and the display mask.
+ghost use mathlib.Core.Path.{_≡_};
+ghost use mathlib.Core.Bool.{Bool};
+ghost use Prim.Native.Nat.{_<_, _≤_};
+ghost use Rattle.sprites.specs.Sprites.{fresh, allFresh, spriteAt, crunched, nextBase, stepped, stepOne, mcbaseStepped, begun, startOne, started, firstPhased, secondPhased, loadOne, loaded, showOne, shown, mcLoaded, clearAfter, flipAfter, expandWritten, fetches, fetched};
+
+pub struct Sprite {
+    pub number: u8,
+    pub mc: u8,
+    pub base: u8,
+    pub dma: bool,
+}
+
+// The masks have sprite k at bit k.
+pub struct Sprites {
+    pub each: [Sprite; 8],
+    pub flip: u8,
+    pub clear: u8,
+    pub dma: u8,
+    pub prev: u8,
+    pub display: u8,
+    pub vmatch: u8,
+}
+
+// Even bits are set where either has them, odd bits where both do.
+fn crunch(base: u8, mc: u8) -> u8
+    ensures { λ r. ⌜ r ≡ crunched base mc ⌝ }
+{
+    (0x2A & base & mc) | (0x15 & (base | mc))
+}
+
+fn next_base(flip: bool, clearing: bool, base: u8, mc: u8) -> u8
+    ensures { λ r. ⌜ r ≡ nextBase flip clearing base mc ⌝ }
+{
+    if !flip {
+        return base;
+    }
+    if clearing {
+        return crunch(base, mc);
+    }
+    mc
+}
+
+impl Sprite {
+    pub fn new(number: u8) -> Self
+        ensures { λ r. ⌜ r ≡ fresh number ⌝ }
+    {
+        Self {
+            number: number,
+            mc: 0,
+            base: 0,
+            dma: false,
+        }
+    }
+
+    // The MCBASE step of one sprite; its last row ends DMA.
+    fn step(mut self, flip: bool, clearing: bool) -> Self
+        ensures { λ r. ⌜ r ≡ stepped flip clearing self ⌝ }
+    {
+        let base = next_base(flip, clearing, self.base, self.mc);
+        self.base = base;
+        self.dma = self.dma & (base != 63);
+        self
+    }
+}
+
+impl Sprites {
+    // Sprite k is numbered k; the expansion flip-flops are set.
+    pub fn new() -> Self
+        ensures { λ r. ⌜ r ≡ allFresh ⌝ }
+    {
+        Self {
+            each: [
+                Sprite::new(0),
+                Sprite::new(1),
+                Sprite::new(2),
+                Sprite::new(3),
+                Sprite::new(4),
+                Sprite::new(5),
+                Sprite::new(6),
+                Sprite::new(7),
+            ],
+            flip: 0xFF,
+            clear: 0,
+            dma: 0,
+            prev: 0,
+            display: 0,
+            vmatch: 0,
+        }
+    }
+
+    // Sprite k's record.
+    pub fn at(self, k: usize) -> Sprite
+        requires { ⌜ k < 8 ⌝ }
+        ensures { λ r. ⌜ r ≡ spriteAt self k ⌝ }
+    {
+        self.each[k]
+    }
+
+    fn step_one(mut self, k: usize) -> Self
+        requires { ⌜ k < 8 ⌝ }
+        ensures { λ r. ⌜ r ≡ stepOne k self ⌝ }
+    {
+        let flip = laws::has_bit(self.flip, k);
+        let clearing = laws::has_bit(self.clear, k);
+        let s = self.each[k];
+        let t = s.step(flip, clearing);
+        self.each[k] = t;
+        if t.dma {
+            return self;
+        }
+        self.dma = laws::without_bit(self.dma, k);
+        self
+    }
+
+    // The MCBASE step of all eight, with or without DMA.
+    pub fn mcbase_step(self) -> Self
+        ensures { λ r. ⌜ r ≡ mcbaseStepped self ⌝ }
+    {
+        let mut s = self;
+        s.prev = s.dma;
+        let mut k: usize = 0;
+        while k < 8 {
+            s = s.step_one(k);
+            k += 1;
+        }
+        s.clear = 0;
+        s
+    }
+
+    fn begin(mut self, k: usize, yexp: u8) -> Self
+        requires { ⌜ k < 8 ⌝ }
+        ensures { λ r. ⌜ r ≡ begun k yexp self ⌝ }
+    {
+        let mut s = self.each[k];
+        s.base = 0;
+        s.dma = true;
+        self.each[k] = s;
+        self.dma = laws::with_bit(self.dma, k);
+        if laws::has_bit(yexp, k) {
+            self.flip = laws::without_bit(self.flip, k);
+            return self;
+        }
+        self
+    }
+
+    fn start_one(self, k: usize, y: u8, line: u8, enable: u8, yexp: u8) -> Self
+        requires { ⌜ k < 8 ⌝ }
+        ensures { λ r. ⌜ r ≡ startOne line enable yexp k y self ⌝ }
+    {
+        let on = laws::has_bit(self.dma, k);
+        let starting = !on & laws::has_bit(enable, k) & (y == line);
+        if starting {
+            return self.begin(k, yexp);
+        }
+        self
+    }
+
+    // The Y comparison of either phase.
+    fn start(self, line: u8, my: [u8; 8], enable: u8, yexp: u8) -> Self
+        ensures { λ r. ⌜ r ≡ started line my enable yexp self ⌝ }
+    {
+        let mut s = self;
+        let mut k: usize = 0;
+        while k < 8 {
+            s = s.start_one(k, my[k], line, enable, yexp);
+            k += 1;
+        }
+        s
+    }
+
+    pub fn first_phase(self, raster: u16, my: [u8; 8], enable: u8, yexp: u8) -> Self
+        ensures { λ r. ⌜ r ≡ firstPhased raster my enable yexp self ⌝ }
+    {
+        let mut s = self;
+        s.prev = s.dma;
+        s.vmatch = 0;
+        s.flip = s.flip ^ yexp;
+        s.start((raster % 256) as u8, my, enable, yexp)
+    }
+
+    pub fn second_phase(self, raster: u16, my: [u8; 8], enable: u8, yexp: u8) -> Self
+        ensures { λ r. ⌜ r ≡ secondPhased raster my enable yexp self ⌝ }
+    {
+        let mut s = self;
+        s.prev = s.dma;
+        s.start((raster % 256) as u8, my, enable, yexp)
+    }
+
+    fn load_one(mut self, k: usize) -> Self
+        requires { ⌜ k < 8 ⌝ }
+        ensures { λ r. ⌜ r ≡ loadOne k self ⌝ }
+    {
+        let mut s = self.each[k];
+        s.mc = s.base;
+        self.each[k] = s;
+        self
+    }
+
+    fn load(self) -> Self
+        ensures { λ r. ⌜ r ≡ loaded self ⌝ }
+    {
+        let mut s = self;
+        let mut k: usize = 0;
+        while k < 8 {
+            s = s.load_one(k);
+            k += 1;
+        }
+        s
+    }
+
+    fn show_one(mut self, k: usize, y: u8, line: u8, enable: u8) -> Self
+        requires { ⌜ k < 8 ⌝ }
+        ensures { λ r. ⌜ r ≡ showOne line enable k y self ⌝ }
+    {
+        let on = laws::has_bit(self.dma, k);
+        let showing = on & laws::has_bit(enable, k) & (y == line);
+        if showing {
+            self.display = laws::with_bit(self.display, k);
+            return self;
+        }
+        self
+    }
+
+    fn show(self, line: u8, my: [u8; 8], enable: u8) -> Self
+        ensures { λ r. ⌜ r ≡ shown line my enable self ⌝ }
+    {
+        let mut s = self;
+        let mut k: usize = 0;
+        while k < 8 {
+            s = s.show_one(k, my[k], line, enable);
+            k += 1;
+        }
+        s
+    }
+
+    // MC from MCBASE for all eight, and which sprites show from now on.
+    pub fn load_mc(self, raster: u16, my: [u8; 8], enable: u8) -> Self
+        ensures { λ r. ⌜ r ≡ mcLoaded raster my enable self ⌝ }
+    {
+        let mut s = self.load();
+        s.display = s.display & s.dma;
+        s.show((raster % 256) as u8, my, enable)
+    }
+
+    // A write of the Y-expand register in a cycle; `old` is what the register held.
+    pub fn write_y_expand(mut self, value: u8, cycle: u16, old: u8) -> Self
+        ensures { λ r. ⌜ r ≡ expandWritten value cycle old self ⌝ }
+    {
+        self.clear = clear_after(value, cycle, self.clear, self.flip);
+        self.flip = flip_after(value, cycle, old, self.flip);
+        self
+    }
+
+    // Whether sprite k's slots fetch: the mask and the sprite's own flag.
+    pub fn fetching(self, k: usize) -> bool
+        requires { ⌜ k < 8 ⌝ }
+        ensures { λ r. ⌜ r ≡ fetches k self ⌝ }
+    {
+        let s = self.each[k];
+        laws::has_bit(self.dma, k) & s.dma
+    }
+
+    // Sprite k's MC after its slot fetched some bytes.
+    pub fn fetch(mut self, k: usize, bytes: u8) -> Self
+        requires { ⌜ (k < 8) × (bytes < 4) ⌝ }
+        ensures { λ r. ⌜ r ≡ fetched k bytes self ⌝ }
+    {
+        let mut s = self.each[k];
+        let on = laws::has_bit(self.dma, k) & s.dma;
+        if on {
+            s.mc = (s.mc % 64 + bytes) % 64;
+            self.each[k] = s;
+            return self;
+        }
+        self
+    }
+}
+
+// The sprites whose clearing is pending: a write in the crunch cycle replaces them.
+fn clear_after(value: u8, cycle: u16, old: u8, flip: u8) -> u8
+    ensures { λ r. ⌜ r ≡ clearAfter value cycle old flip ⌝ }
+{
+    if schedule::crunch(cycle) {
+        return !(value | flip);
+    }
+    old
+}
+
+fn flip_after(value: u8, cycle: u16, old: u8, flip: u8) -> u8
+    ensures { λ r. ⌜ r ≡ flipAfter value cycle old flip ⌝ }
+{
+    if schedule::first_phase(cycle) {
+        return (flip & (old | !value)) | !value;
+    }
+    flip | !value
+}
