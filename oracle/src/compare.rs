@@ -1,0 +1,116 @@
+//! Compares two files of answers, field by field.
+
+use crate::replay::{fill, open, Case, ANSWER, CALLS, CASE, MEMORIES};
+use crate::scene::{fields, Field, Kind, State};
+use std::io::{self, Read};
+
+/// How many differing cases are shown in full.
+const SHOWN: u64 = 10;
+
+/// The answer's own two fields, the head, and the scene's, with places counted from the answer's start.
+fn table() -> Vec<Field> {
+    let own = |name: &str, offset, size| Field { name: name.into(), offset, size, kind: Kind::Number };
+    let mut table = vec![own("refusal", 0, 1), own("answer", 1, 2), own("head", 3, 4)];
+    table.extend(fields().into_iter().map(|field| Field { offset: field.offset + 3, ..field }));
+    table
+}
+
+/// True where the files are the same and answer every case that is one.
+pub fn compare(input: &str, ours: &str, theirs: &str) -> io::Result<bool> {
+    let mut input = open(input)?;
+    let mut ours = open(ours)?;
+    let mut theirs = open(theirs)?;
+    let table = table();
+    let mut counts = vec![0u64; table.len()];
+    let (mut compared, mut differing) = (0u64, 0u64);
+
+    let mut memories = vec![0; MEMORIES];
+    fill(&mut input, &mut memories)?;
+    let ended_well = loop {
+        let mut case = [0; CASE];
+        let (mut a, mut b) = ([0; ANSWER], [0; ANSWER]);
+        let case_length = fill(&mut input, &mut case)?;
+        let (a_length, b_length) = (fill(&mut ours, &mut a)?, fill(&mut theirs, &mut b)?);
+        let wanted = case_length == CASE && Case::decode(&case).is_some();
+        if !wanted || a_length < ANSWER || b_length < ANSWER {
+            // Two files that are short in the same way agree on nothing beyond their end.
+            let ended_well = !wanted && a_length == 0 && b_length == 0;
+            if !ended_well {
+                let place = if wanted { "which wants an answer" } else { "which is none" };
+                println!("at case {compared}, {place}: ours has {a_length} bytes, theirs {b_length}");
+            }
+            break ended_well;
+        }
+        if a != b {
+            differing += 1;
+            let shown = differing <= SHOWN;
+            if shown {
+                println!("case {compared}: {}", describe(&case));
+            }
+            for (field, count) in table.iter().zip(&mut counts) {
+                let range = field.offset..field.offset + field.size;
+                let (a, b) = (&a[range.clone()], &b[range]);
+                if a != b {
+                    *count += 1;
+                    if shown {
+                        println!("  {}: ours {}, theirs {}", field.name, value(field, a), value(field, b));
+                    }
+                }
+            }
+        }
+        compared += 1;
+    };
+    println!("{compared} answers compared, {differing} differ");
+    for (field, count) in table.iter().zip(&counts).filter(|(_, count)| **count > 0) {
+        println!("  {count:>8}  {}{}", field.name, place(field));
+    }
+    Ok(ended_well && differing == 0)
+}
+
+/// Where the field is in a scene; the first two are the answer's own.
+fn place(field: &Field) -> String {
+    if field.offset < 3 {
+        String::new()
+    } else {
+        format!(" (scene byte {})", field.offset - 3)
+    }
+}
+
+fn value(field: &Field, bytes: &[u8]) -> i128 {
+    let number = bytes.iter().rev().fold(0i128, |number, byte| number << 8 | i128::from(*byte));
+    let size = 8 * field.size;
+    if field.kind == Kind::Signed && number >> (size - 1) & 1 == 1 {
+        number - (1 << size)
+    } else {
+        number
+    }
+}
+
+fn describe(case: &[u8; CASE]) -> String {
+    let call = CALLS.get(usize::from(case[0])).copied().unwrap_or("no call");
+    let place = match State::decode(&case[6..]) {
+        Some(s) => format!("cycle {}, raster {}, mode {}, DMA mask {:#04x}", s.cycle, s.raster, s.mode, s.dma),
+        None => "not a scene".into(),
+    };
+    format!("{call}, bank {}, bytes {:?}, on a state with {place}", case[1], &case[2..6])
+}
+
+/// Prints one case of a file; false where there is none.
+pub fn show(input: &str, number: u64) -> io::Result<bool> {
+    let mut input = open(input)?;
+    let skipped = MEMORIES as u64 + number * CASE as u64;
+    if io::copy(&mut input.by_ref().take(skipped), &mut io::sink())? < skipped {
+        println!("there is no case {number}");
+        return Ok(false);
+    }
+    let mut case = [0; CASE];
+    if fill(&mut input, &mut case)? < CASE {
+        println!("there is no case {number}");
+        return Ok(false);
+    }
+    println!("case {number}: {}", describe(&case));
+    for field in fields() {
+        println!("  {}: {}", field.name, value(&field, &case[6 + field.offset..][..field.size]));
+    }
+    Ok(true)
+}

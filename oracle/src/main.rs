@@ -1,0 +1,74 @@
+//! The original VIC-II as judge of the port. README.md says what each command does.
+
+mod accept;
+mod cases;
+mod chart;
+mod check;
+mod clockchip;
+mod compare;
+mod memory;
+mod pla;
+mod replay;
+mod rng;
+mod runs;
+mod scene;
+mod selftest;
+mod states;
+mod vic;
+mod walk;
+
+use std::io::{self, BufWriter, Read, Write};
+use std::process::ExitCode;
+
+const USAGE: &str = "usage:
+  oracle cases SEED COUNT OUTFILE        make replay input
+  oracle answer INFILE OUTFILE           answer replay input with the original
+  oracle compare-replay IN OURS THEIRS   compare two files of answers
+  oracle show INFILE NUMBER              print one case of a replay input
+  oracle runs SEED COUNT DIR             make run files
+  oracle chart < FILE > OUT              chart a run file with the original
+  oracle check SEED COUNT                check the original on accepted states
+  oracle selftest                        check the oracle's own parts";
+
+fn main() -> ExitCode {
+    let arguments: Vec<String> = std::env::args().skip(1).collect();
+    let arguments: Vec<&str> = arguments.iter().map(String::as_str).collect();
+    match run(&arguments) {
+        Ok(Some(true)) => ExitCode::SUCCESS,
+        Ok(Some(false)) => ExitCode::from(1),
+        Ok(None) => {
+            eprintln!("{USAGE}");
+            ExitCode::from(2)
+        }
+        Err(error) => {
+            eprintln!("oracle: {error}");
+            ExitCode::from(2)
+        }
+    }
+}
+
+/// The command's verdict; nothing where there is no such command.
+fn run(arguments: &[&str]) -> io::Result<Option<bool>> {
+    let verdict = match *arguments {
+        ["cases", seed, count, output] => cases::make(number(seed)?, number(count)?, output).map(|()| true),
+        ["answer", input, output] => replay::answer(input, output).map(|()| true),
+        ["compare-replay", input, ours, theirs] => compare::compare(input, ours, theirs),
+        ["show", input, place] => compare::show(input, number(place)?),
+        ["runs", seed, count, folder] => runs::make(number(seed)?, number(count)?, folder).map(|()| true),
+        ["chart"] => {
+            let mut bytes = Vec::new();
+            io::stdin().lock().read_to_end(&mut bytes)?;
+            let mut output = BufWriter::new(io::stdout().lock());
+            chart::chart(&bytes, &mut output)?;
+            output.flush().map(|()| true)
+        }
+        ["check", seed, count] => Ok(check::check(number(seed)?, number(count)?)),
+        ["selftest"] => Ok(selftest::selftest()),
+        _ => return Ok(None),
+    };
+    verdict.map(Some)
+}
+
+fn number(text: &str) -> io::Result<u64> {
+    text.parse().map_err(|_| io::Error::new(io::ErrorKind::InvalidInput, format!("{text} is not a number")))
+}

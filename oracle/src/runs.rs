@@ -1,0 +1,355 @@
+//! Makes run files (document 01, "Run file and chart program").
+
+use crate::memory::{COLOUR, RAM, ROM};
+use crate::rng::Rng;
+use std::path::Path;
+use std::{fs, io};
+
+/// A run file in its parts.
+#[derive(Default)]
+struct Run {
+    ram: Vec<(u16, u8)>,
+    rom: Vec<(u16, u8)>,
+    colour: Vec<(u16, u8)>,
+    steps: Vec<[u8; 5]>,
+}
+
+impl Run {
+    fn encode(&self) -> Vec<u8> {
+        let mut bytes = Vec::new();
+        for section in [&self.ram, &self.rom, &self.colour] {
+            bytes.extend((section.len() as u16).to_le_bytes());
+            for (place, value) in section {
+                bytes.extend(place.to_le_bytes());
+                bytes.push(*value);
+            }
+        }
+        bytes.extend((self.steps.len() as u16).to_le_bytes());
+        bytes.extend(self.steps.iter().flatten());
+        bytes
+    }
+
+    /// The byte at which the steps begin, after their count.
+    fn steps_at(&self) -> usize {
+        8 + 3 * (self.ram.len() + self.rom.len() + self.colour.len())
+    }
+
+    fn tick(&mut self) {
+        self.steps.push([0; 5]);
+    }
+
+    fn write(&mut self, address: u8, value: u8) {
+        self.steps.push([1, address, value, 0, 0]);
+    }
+
+    fn write_y_expand(&mut self, value: u8) {
+        self.steps.push([2, value, 0, 0, 0]);
+    }
+
+    fn controls(&mut self, ctrl1: u8, ctrl2: u8, compare: u16) {
+        let [low, high] = compare.to_le_bytes();
+        self.steps.push([3, ctrl1, ctrl2, low, high]);
+    }
+
+    fn late_byte(&mut self, value: u8) {
+        self.steps.push([4, value, 0, 0, 0]);
+    }
+
+    fn border_compares(&mut self) {
+        self.steps.push([5, 0, 0, 0, 0]);
+    }
+
+    fn display(&mut self, fields: [bool; 4]) {
+        let [a, b, c, d] = fields.map(u8::from);
+        self.steps.push([6, a, b, c, d]);
+    }
+
+    fn bank(&mut self, bank: u8) {
+        self.steps.push([7, bank, 0, 0, 0]);
+    }
+
+    /// Where the beam is after these many ticks from power-up: cycle and line.
+    fn beam(ticks: usize) -> (usize, usize) {
+        match ticks {
+            0 => (63, 311),
+            // Line 0 begins in cycle 2; the writers below don't look at cycle 1 of it.
+            _ => ((ticks - 1) % 63 + 1, (ticks - 1) / 63 % 312),
+        }
+    }
+}
+
+pub fn make(seed: u64, count: u64, folder: &str) -> io::Result<()> {
+    fs::create_dir_all(folder)?;
+    for number in 0..count {
+        // Each file has its own generator, so that it doesn't change with the number of files.
+        let mut r = Rng::new(seed.wrapping_mul(0x1_0000_0001).wrapping_add(number));
+        let bytes = one(&mut r, number);
+        fs::write(Path::new(folder).join(format!("{number:05}.run")), bytes)?;
+    }
+    Ok(())
+}
+
+/// In turn: a game, random runs, damaged ones, tiny ones.
+fn one(r: &mut Rng, number: u64) -> Vec<u8> {
+    match number % 16 {
+        0 => game(r).encode(),
+        1..=6 => random(r).encode(),
+        7..=12 => damaged(r, number / 16 * 6 + number % 16 - 7),
+        _ => tiny(r),
+    }
+}
+
+fn changes(r: &mut Rng, size: usize, most: u64) -> Vec<(u16, u8)> {
+    let count = r.below(most + 1);
+    (0..count).map(|_| (r.below(size as u64) as u16, r.byte())).collect()
+}
+
+/// Calls at random between stretches of ticks.
+fn random(r: &mut Rng) -> Run {
+    let mut run = Run { ram: changes(r, RAM, 600), rom: changes(r, ROM, 300), colour: changes(r, COLOUR, 200), ..Run::default() };
+    let length = r.pick(&[50, 500, 4000, 9000, 22000]);
+    let quiet = r.pick(&[2, 10, 63, 300]);
+    let mut ticks = 0;
+    run.bank(r.below(4) as u8);
+    while run.steps.len() < length {
+        random_call(r, &mut run, ticks);
+        for _ in 0..r.below(2 * quiet) {
+            run.tick();
+            ticks += 1;
+            if r.chance(1, 3) {
+                run.late_byte(r.byte());
+            }
+        }
+    }
+    run.steps.truncate(length);
+    run
+}
+
+fn random_call(r: &mut Rng, run: &mut Run, ticks: usize) {
+    let (_, line) = Run::beam(ticks);
+    match r.below(12) {
+        0..=2 => {
+            let mut ctrl1 = r.byte();
+            if r.chance(4, 5) {
+                ctrl1 |= 0x10;
+            }
+            if r.flag() {
+                ctrl1 = (ctrl1 & 0xF8) | (line as u8 & 7);
+            }
+            let compare = if r.flag() { r.below(512) as u16 } else { (line as u16 + r.below(3) as u16) % 312 };
+            run.controls(ctrl1, r.byte(), compare);
+        }
+        3 => run.write(r.byte(), r.byte()),
+        4 => run.write(2 * r.below(8) as u8 + 1, (line as u8).wrapping_add(r.below(3) as u8)),
+        5 => run.write(0x15, r.mask()),
+        6 => run.write_y_expand(r.mask()),
+        7 => run.border_compares(),
+        8 | 9 => run.display([r.flag(), r.flag(), r.flag(), r.flag()]),
+        10 => run.late_byte(r.byte()),
+        _ => run.bank(r.below(4) as u8),
+    }
+}
+
+/// A frame or two as a game has them: a screen, sprites used twice, splits, a crunch, an open border.
+fn game(r: &mut Rng) -> Run {
+    let mut run = Run::default();
+    // Screen at 0x0400 with its sprite pointers, two pages of shapes, a character set, colours.
+    run.ram.extend((0..1000).map(|k| (0x0400 + k, r.byte())));
+    run.ram.extend((0..8).map(|k| (0x07F8 + k, r.within(0x20, 0x27) as u8)));
+    run.ram.extend((0x0800..0x0A00).map(|k| (k, r.byte())));
+    run.ram.push((0x3FFF, r.byte()));
+    run.rom.extend((0..1024).map(|k| (k, r.byte())));
+    run.colour.extend((0..1000).map(|k| (k, r.byte() & 0x0F)));
+
+    let yscroll = r.below(8) as u8;
+    let mut ctrl1 = 0x18 | yscroll;
+    let ctrl2 = 0xC8 | r.below(8) as u8;
+    let first_split = r.within(0x40, 0x70) as usize;
+    let second_split = r.within(0x80, 0xE0) as usize;
+    let crunch = r.within(0x40, 0xC0) as usize;
+    let forced = r.within(0x38, 0xF0) as usize;
+    let forced_cycle = r.within(16, 50) as usize;
+    let open_border = r.flag();
+    let mut y: [u8; 8] = std::array::from_fn(|_| r.within(0x32, 0x60) as u8);
+
+    run.controls(ctrl1, ctrl2, first_split as u16);
+    run.border_compares();
+    run.write(0x18, 0x14);
+    run.write(0x1A, 0x01);
+    run.write(0x15, r.mask());
+    run.write_y_expand(r.mask());
+    for (k, y) in y.iter().enumerate() {
+        run.write(2 * k as u8, r.byte());
+        run.write(2 * k as u8 + 1, *y);
+        run.write(0x27 + k as u8, r.byte());
+    }
+
+    let frames = r.within(1, 2) as usize;
+    for ticks in 1..=frames * 312 * 63 {
+        run.tick();
+        let (cycle, line) = Run::beam(ticks);
+        // The board's byte in the cycles in which the CPU may still have the bus.
+        if (15..=18).contains(&cycle) && (0x30..=0xF7).contains(&line) {
+            run.late_byte(r.byte());
+        }
+        // A handler acts some cycles after its interrupt.
+        if cycle == 12 && line == first_split {
+            run.write(0x19, 0x0F);
+            run.write(0x21, r.byte());
+            run.write(0x18, r.byte());
+            ctrl1 ^= 0x20;
+            run.controls(ctrl1, ctrl2 ^ 0x10, second_split as u16);
+            run.display([true, false, false, true]);
+        }
+        if cycle == 12 && line == second_split {
+            run.write(0x19, 0x0F);
+            run.write(0x18, 0x14);
+            ctrl1 ^= 0x20;
+            run.controls(ctrl1, ctrl2, first_split as u16);
+            // The sprites once more, further down.
+            for (k, y) in y.iter_mut().enumerate() {
+                *y = y.wrapping_add(0x60);
+                run.write(2 * k as u8 + 1, *y);
+            }
+        }
+        if line == crunch && (cycle == 14 || cycle == 15) {
+            run.write_y_expand(if cycle == 14 { 0xFF } else { r.mask() });
+        }
+        // A bad line forced in the middle of a line, as the host's $D011 handler does it.
+        if line == forced && cycle == forced_cycle {
+            run.controls((ctrl1 & 0xF8) | (line as u8 & 7), ctrl2, second_split as u16);
+            run.display([true, true, true, false]);
+        }
+        if line == forced && cycle == 60 {
+            run.controls(ctrl1, ctrl2, second_split as u16);
+        }
+        if open_border && line == 0xF9 && cycle == 30 {
+            run.controls(ctrl1 & 0xF7, ctrl2, first_split as u16);
+            run.border_compares();
+        }
+        if open_border && line == 0x100 && cycle == 30 {
+            run.controls(ctrl1, ctrl2, first_split as u16);
+            run.border_compares();
+        }
+    }
+    run
+}
+
+/// A short run with one fault, each kind in turn.
+fn damaged(r: &mut Rng, turn: u64) -> Vec<u8> {
+    let mut run = Run { ram: changes(r, RAM, 4), rom: changes(r, ROM, 4), colour: changes(r, COLOUR, 4), ..Run::default() };
+    for _ in 0..r.within(1, 40) {
+        if r.flag() {
+            run.tick();
+        } else {
+            random_call(r, &mut run, 0);
+        }
+    }
+    let step = r.below(run.steps.len() as u64) as usize;
+    match turn % 16 {
+        // Cut anywhere, and in the middle of a step.
+        0 | 1 => {
+            let mut bytes = run.encode();
+            bytes.truncate(r.below(bytes.len() as u64) as usize);
+            return bytes;
+        }
+        2 => {
+            let mut bytes = run.encode();
+            bytes.truncate(run.steps_at() + 5 * step + r.below(5) as usize);
+            return bytes;
+        }
+        // Bytes too many.
+        3 => {
+            let mut bytes = run.encode();
+            bytes.extend((0..r.within(1, 6)).map(|_| r.byte()));
+            return bytes;
+        }
+        // Any byte changed.
+        4 | 5 => {
+            let mut bytes = run.encode();
+            let place = r.below(bytes.len() as u64) as usize;
+            bytes[place] = r.byte();
+            return bytes;
+        }
+        // A count above its limit, with nothing after it or with everything.
+        6 => {
+            let (before, limit) = match r.below(3) {
+                0 => (0, RAM),
+                1 => (2 + 3 * run.ram.len(), ROM),
+                _ => (4 + 3 * (run.ram.len() + run.rom.len()), COLOUR),
+            };
+            let mut bytes = run.encode();
+            let count = r.pick(&[limit as u16, limit as u16 + 1, 0xFFFF]);
+            bytes[before..before + 2].copy_from_slice(&count.to_le_bytes());
+            if r.flag() {
+                bytes.truncate(before + 2);
+            }
+            return bytes;
+        }
+        // An address past its memory.
+        7 => match r.below(3) {
+            0 => run.ram.push((r.pick(&[RAM as u16, 0xFFFF]), 1)),
+            1 => run.rom.push((r.pick(&[ROM as u16, 0xFFFF]), 1)),
+            _ => run.colour.push((r.pick(&[COLOUR as u16, 0xFFFF]), 1)),
+        },
+        // The same in a record that is cut off: 7 comes first.
+        8 => {
+            run.steps.clear();
+            run.colour.push((0xFFFF, 1));
+            let mut bytes = run.encode();
+            bytes.truncate(run.steps_at() - 2 - r.within(1, 2) as usize);
+            return bytes;
+        }
+        9 => run.steps[step] = [r.pick(&[8, 9, 128, 255]), 0, 0, 0, 0],
+        10 => run.steps[step] = [7, r.pick(&[4, 255]), 0, 0, 0],
+        11 => run.steps[step] = [3, r.byte(), r.byte(), r.byte(), r.pick(&[2, 3, 255])],
+        12 => {
+            let mut fields = [6, 0, 1, 0, 1];
+            fields[r.within(1, 4) as usize] = r.pick(&[2, 255]);
+            run.steps[step] = fields;
+        }
+        // An unused byte that is not 0, for each kind that has one.
+        13 | 14 => {
+            let (kind, used) = r.pick(&[(0, 0), (1, 2), (2, 1), (4, 1), (5, 0), (7, 1)]);
+            let mut record = [kind, 0, 0, 0, 0];
+            record[r.within(used + 1, 4) as usize] = r.pick(&[1, 255]);
+            run.steps[step] = record;
+        }
+        // A whole section left out.
+        _ => match r.below(3) {
+            0 => return run.encode().split_off(2),
+            1 => return run.encode().split_off(r.below(9) as usize),
+            _ => {
+                let mut bytes = run.encode();
+                let count = run.steps.len() as u16 + r.within(1, 300) as u16;
+                let place = run.steps_at() - 2;
+                bytes[place..place + 2].copy_from_slice(&count.to_le_bytes());
+                return bytes;
+            }
+        },
+    }
+    run.encode()
+}
+
+/// No bytes, a few bytes, no steps, a few steps of one kind.
+fn tiny(r: &mut Rng) -> Vec<u8> {
+    match r.below(4) {
+        0 => vec![0; r.below(12) as usize],
+        1 => (0..r.below(24)).map(|_| r.pick(&[0, 0, 0, 1, 2, 255])).collect(),
+        2 => {
+            let mut run = Run::default();
+            for _ in 0..r.below(130) {
+                run.tick();
+            }
+            run.encode()
+        }
+        _ => {
+            let mut run = Run::default();
+            for _ in 0..r.below(6) {
+                random_call(r, &mut run, 0);
+                run.tick();
+            }
+            run.encode()
+        }
+    }
+}

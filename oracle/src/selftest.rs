@@ -1,0 +1,250 @@
+//! Small checks of the oracle's own parts.
+
+use crate::accept::accepted;
+use crate::chart::chart;
+use crate::memory::Memory;
+use crate::replay::{answer_case, Case, BA_HIGH_AT_PHI1, LATE_BYTE, TICK};
+use crate::rng::Rng;
+use crate::scene::{fields, Kind, State, SCENE};
+use crate::states::{accepted_state, wild_state};
+use crate::vic::glue::Machine;
+use crate::vic::timing::VicTiming;
+
+type Check = (&'static str, fn() -> bool);
+
+const CHECKS: &[Check] = &[
+    ("scenes keep their bytes", scenes_keep_their_bytes),
+    ("what is not a scene is told", others_are_told),
+    ("the chip keeps a scene", the_chip_keeps_a_scene),
+    ("power-up", power_up),
+    ("document 01's chart", the_chart),
+    ("faults of a run file", faults),
+    ("the twelve settled by proof", the_twelve),
+    ("the mask follows the slots", the_mask),
+];
+
+pub fn selftest() -> bool {
+    let mut sound = true;
+    for (name, check) in CHECKS {
+        let passed = check();
+        println!("{} {name}", if passed { "ok    " } else { "FAILED" });
+        sound &= passed;
+    }
+    sound
+}
+
+fn any_state(r: &mut Rng) -> State {
+    let cycle = r.within(1, 63) as u16;
+    if r.flag() {
+        accepted_state(r, cycle)
+    } else {
+        wild_state(r)
+    }
+}
+
+fn scenes_keep_their_bytes() -> bool {
+    let mut r = Rng::new(1);
+    (0..20_000).all(|_| {
+        let state = any_state(&mut r);
+        let bytes = state.encode();
+        State::decode(&bytes).is_some_and(|again| again == state && again.encode() == bytes)
+    })
+}
+
+/// Every byte that may not be anything is tried with all its values.
+fn others_are_told() -> bool {
+    let bytes = accepted_state(&mut Rng::new(2), 17).encode();
+    let with = |place: usize, value: u8| {
+        let mut other = bytes;
+        other[place] = value;
+        State::decode(&other).is_some()
+    };
+    let head = (0..4).all(|place| (0..=255).all(|value| with(place, value) == (value == bytes[place])));
+    let limits = fields().iter().all(|field| {
+        (0..=255).all(|value| {
+            let allowed = match field.kind {
+                Kind::Number | Kind::Signed => true,
+                Kind::Flag => value <= 1,
+                Kind::Mode => value <= 7,
+                Kind::Place => value <= 39 || value == 255,
+            };
+            with(field.offset, value) == allowed
+        })
+    });
+    let longer = [&bytes[..], &[0]].concat();
+    head && limits && State::decode(&bytes[..SCENE - 1]).is_none() && State::decode(&longer).is_none()
+}
+
+fn the_chip_keeps_a_scene() -> bool {
+    let mut r = Rng::new(3);
+    let mut machine = Machine::new(Memory::new());
+    (0..20_000).all(|_| {
+        let state = any_state(&mut r);
+        machine.load(&state);
+        machine.state() == state
+    })
+}
+
+/// Document 01's list, with corners.md, item 15.
+fn power_up() -> bool {
+    let mut expected = State::zero();
+    expected.cycle = 63;
+    expected.raster = 311;
+    expected.ba_output_high = true;
+    expected.vertical_border = true;
+    expected.main_border = true;
+    expected.main_remembered = true;
+    expected.output_disabled = true;
+    expected.top = 0x37;
+    expected.bottom = 0xF7;
+    expected.flip = 0xFF;
+    expected.aec_counter = 3;
+    for (k, sprite) in expected.sprites.iter_mut().enumerate() {
+        sprite.number = k as u8;
+    }
+    let state = Machine::new(Memory::new()).state();
+    state == expected && accepted(&state)
+}
+
+fn charted(bytes: &[u8]) -> String {
+    let mut text = Vec::new();
+    chart(bytes, &mut text).expect("a list can be written");
+    String::from_utf8(text).expect("a chart is plain text")
+}
+
+fn the_chart() -> bool {
+    let mut bytes = vec![0, 0, 0, 0, 0, 0, 3, 0];
+    bytes.extend([0; 15]);
+    charted(&bytes) == "steps 3\n1 311 1 1 0 0 0 0\n2 0 1 1 0 0 0 1\n3 0 1 1 0 0 0 1\n"
+}
+
+/// One file for each reading of corners.md, item 32.
+fn faults() -> bool {
+    let steps = |records: &[[u8; 5]]| {
+        let mut bytes = vec![0, 0, 0, 0, 0, 0, records.len() as u8, 0];
+        bytes.extend(records.iter().flatten());
+        charted(&bytes)
+    };
+    let last = |text: String| text.lines().last().unwrap_or_default().to_string();
+    let before: &[(&[u8], &str)] = &[
+        (&[], "refused 7 0\n"),
+        (&[0], "refused 7 0\n"),
+        (&[0, 0, 0, 0, 0, 0, 0], "refused 7 0\n"),
+        (&[0, 0, 0, 0, 0, 0, 0, 0], "steps 0\n"),
+        (&[0, 0, 0, 0, 0, 0, 0, 0, 0], "steps 0\nrefused 9 0\n"),
+        (&[0, 0, 0, 0, 0, 0, 1, 0], "steps 1\nrefused 7 0\n"),
+        // 16,385 changes are too many; 16,384 are not, but they are not there.
+        (&[1, 0x40], "refused 8 0\n"),
+        (&[0, 0x40], "refused 7 0\n"),
+        // An address is judged once its record is there.
+        (&[1, 0, 0, 0x40], "refused 7 0\n"),
+        (&[1, 0, 0, 0x40, 1], "refused 8 0\n"),
+        (&[1, 0, 0xFF, 0x3F, 1], "refused 7 0\n"),
+        (&[0, 0, 1, 0, 0, 0x10, 1], "refused 8 0\n"),
+        (&[0, 0, 0, 0, 1, 0, 0, 0x04, 1], "refused 8 0\n"),
+    ];
+    let refused: &[[u8; 5]] = &[
+        [0, 1, 0, 0, 0],
+        [1, 0, 0, 1, 0],
+        [1, 0, 0, 0, 1],
+        [2, 0, 1, 0, 0],
+        [3, 0, 0, 0, 2],
+        [4, 0, 0, 0, 1],
+        [5, 1, 0, 0, 0],
+        [6, 2, 0, 0, 0],
+        [6, 0, 2, 0, 0],
+        [6, 0, 0, 2, 0],
+        [6, 0, 0, 0, 2],
+        [7, 4, 0, 0, 0],
+        [7, 0, 1, 0, 0],
+        [8, 0, 0, 0, 0],
+    ];
+    let taken: &[[u8; 5]] =
+        &[[1, 255, 255, 0, 0], [2, 255, 0, 0, 0], [3, 255, 255, 255, 1], [4, 255, 0, 0, 0], [5, 0, 0, 0, 0], [6, 1, 1, 1, 1], [7, 3, 0, 0, 0]];
+    before.iter().all(|(bytes, text)| charted(bytes) == *text)
+        && refused.iter().all(|record| last(steps(&[[5, 0, 0, 0, 0], *record])) == "refused 8 1")
+        && taken.iter().all(|record| steps(&[*record]) == "steps 1\n")
+}
+
+/// Document 01, "Twelve settled by proof", asked of the original.
+fn the_twelve() -> bool {
+    let mut machine = Machine::new(Memory::new());
+    let mut tick = |change: &dyn Fn(&mut State)| {
+        machine.power_up();
+        let mut state = machine.state();
+        change(&mut state);
+        let bytes = answer_case(&mut machine, &Case { call: TICK, bank: 0, arguments: [0; 4], state });
+        assert_eq!(bytes[0], 0, "the tick is taken");
+        State::decode(&bytes[3..]).expect("an answer holds a scene")
+    };
+    let bad_lines = VicTiming::compute_is_badline(0x30, 0, true)
+        && !VicTiming::compute_is_badline(0x2F, 7, true)
+        && VicTiming::compute_is_badline(0xF7, 7, true)
+        && !VicTiming::compute_is_badline(0xF8, 0, true);
+    let masks = mask_at(63) == 0x1C && mask_at(54) == 0 && mask_at(55) == 0x01;
+
+    let crunched = tick(&|s| {
+        s.cycle = 15;
+        s.clear_pending = 1;
+        s.sprites[0].base = 3;
+        s.sprites[0].mc = 6;
+    });
+    let ended = tick(&|s| {
+        s.cycle = 15;
+        s.dma = 1;
+        s.sprites[0].dma = true;
+        s.sprites[0].base = 60;
+        s.sprites[0].mc = 63;
+    });
+    let bad_at_58 = tick(&|s| {
+        s.cycle = 57;
+        s.raster = 0x30;
+        s.den_latch = true;
+        s.rc = 7;
+    });
+    let idle_at_58 = tick(&|s| {
+        s.cycle = 57;
+        s.displaying = true;
+        s.rc = 7;
+    });
+
+    machine.power_up();
+    let mut state = machine.state();
+    state.pending = Some(5);
+    let bytes = answer_case(&mut machine, &Case { call: LATE_BYTE, bank: 0, arguments: [0xA7, 0, 0, 0], state });
+    let late = State::decode(&bytes[3..]).expect("an answer holds a scene");
+
+    bad_lines
+        && masks
+        && crunched.sprites[0].base == 7
+        && (ended.sprites[0].base, ended.sprites[0].dma, ended.dma) == (63, false, 0)
+        && (late.matrix[5], late.pending) == (0x07FF, None)
+        && (bad_at_58.rc, bad_at_58.displaying) == (0, true)
+        && (idle_at_58.rc, idle_at_58.displaying) == (7, false)
+}
+
+/// The request mask: the original's table is private, so each sprite is asked by itself.
+fn mask_at(cycle: u16) -> u8 {
+    let mut machine = Machine::new(Memory::new());
+    let mut mask = 0;
+    for k in 0..8 {
+        let mut state = machine.state();
+        state.cycle = cycle;
+        state.ba_output_high = true;
+        state.dma = 1 << k;
+        state.previous_dma = 1 << k;
+        let bytes = answer_case(&mut machine, &Case { call: BA_HIGH_AT_PHI1, bank: 0, arguments: [0; 4], state });
+        if bytes[1] == 0 {
+            mask |= 1 << k;
+        }
+    }
+    mask
+}
+
+/// Document 01: the request lasts from three cycles before the pointer slot to the data slot.
+fn the_mask() -> bool {
+    (0..=130).chain([0xFFFF]).all(|cycle: u16| {
+        let expected = (0..8u16).filter(|n| (55..=59).any(|first| (first + 2 * n - 1) % 63 + 1 == cycle)).fold(0, |mask, n| mask | 1 << n);
+        mask_at(cycle) == expected
+    })
+}

@@ -1,0 +1,300 @@
+//! Made-up states: accepted ones with a lean towards the corners, refused ones, and wild ones.
+
+use crate::accept::{vmli_limit, CLOCK_LIMIT};
+use crate::rng::Rng;
+use crate::scene::{Sprite, State};
+
+/// Lines at which something begins or ends, and their neighbours.
+const LINES: [u16; 24] =
+    [0, 1, 0x2F, 0x30, 0x31, 0x32, 0x33, 0x34, 0x36, 0x37, 0x38, 0xF6, 0xF7, 0xF8, 0xFA, 0xFB, 0xFC, 0xFF, 0x100, 0x101, 0x130, 309, 310, 311];
+
+/// Any accepted state at a cycle. Every field takes every value that acceptance allows.
+pub fn accepted_state(r: &mut Rng, cycle: u16) -> State {
+    let (raster, compared) = lines(r, cycle);
+    let clock = clock(r);
+    let dma = r.mask();
+    let agree = r.chance(3, 5);
+    let aec_counter = r.within(-1, 3) as i8;
+    State {
+        cycle,
+        raster,
+        den: r.flag(),
+        rsel: r.flag(),
+        yscroll: if r.flag() { r.byte() & 7 } else { r.byte() },
+        bad_line: r.flag(),
+        rising_edge: r.flag(),
+        ba_output_high: r.flag(),
+
+        x: array(r),
+        y: std::array::from_fn(|_| if r.chance(2, 5) { compared as u8 } else { r.byte() }),
+        sprite_colours: array(r),
+        backgrounds: array(r),
+        x_high: r.byte(),
+        enable: r.mask(),
+        y_expand: r.mask(),
+        x_expand: r.byte(),
+        priority: r.byte(),
+        multicolour: r.byte(),
+        multicolour_0: r.byte(),
+        multicolour_1: r.byte(),
+        ctrl1: ctrl1(r, compared),
+        ctrl2: r.byte(),
+        compare: compare_line(r, compared),
+        // Half of them put the characters at 0x1000 or 0x1800, where two banks show ROM.
+        memory_pointers: if r.flag() { (r.byte() & 0xF1) | r.pick(&[0x04, 0x06]) } else { r.byte() },
+        border_colour: r.byte(),
+
+        irq_flags: r.byte(),
+        irq_enable: if r.flag() { r.byte() & 0x0F } else { r.byte() },
+        irq_line: r.flag(),
+
+        vertical_border: r.flag(),
+        main_border: r.flag(),
+        main_remembered: r.flag(),
+        output_disabled: r.chance(1, 3),
+        part_40: r.byte(),
+        part_38: r.byte(),
+        top: border_line(r, 0x33, 0x37, compared),
+        bottom: border_line(r, 0xFB, 0xF7, compared),
+
+        flip: r.mask(),
+        clear_pending: r.mask(),
+        dma,
+        previous_dma: r.mask(),
+        sprite_display: r.mask(),
+        vertical_match: r.byte(),
+
+        sprites: std::array::from_fn(|k| Sprite {
+            number: k as u8,
+            pointer: r.byte(),
+            mc: counter(r),
+            base: counter(r),
+            dma: if agree { dma >> k & 1 == 1 } else { r.flag() },
+            word: r.next() as u32,
+            bytes: array(r),
+        }),
+        matrix: std::array::from_fn(|_| r.word()),
+
+        vc: video_counter(r),
+        vc_base: video_counter(r),
+        rc: row(r),
+        vmli: if r.chance(1, 4) { vmli_limit(cycle) } else { r.below(u64::from(vmli_limit(cycle)) + 1) as u8 },
+        ba_low: r.flag(),
+        // The stored flag and the counter may disagree.
+        aec_low: if r.chance(3, 4) { aec_counter < 0 } else { r.flag() },
+        irq_changed: r.flag(),
+        displaying: r.chance(2, 3),
+        entering: r.chance(1, 4),
+        accessing: r.flag(),
+        mode: r.byte() & 7,
+        previous_mode: r.byte() & 7,
+        mode_changing: r.flag(),
+        character: r.word(),
+        carry: r.word(),
+        graphics: r.byte(),
+        den_latch: r.chance(3, 4),
+        frame_flag: if cycle == 1 { r.flag() } else { r.chance(1, 4) },
+        raster_match: r.flag(),
+        aec_counter,
+        clock_fall: r.next() as i64,
+        clock_rise: r.next() as i64,
+        forced_clock: forced_clock(r, clock),
+        clock,
+        pending: if r.flag() { Some(r.below(40) as u8) } else { None },
+    }
+}
+
+/// Bends a state so that the next tick merges: displaying, no bad line, RC 0, output enabled, and
+/// a forced clock less than forty away. Only cycles 15 to 54 are followed by a graphics access.
+pub fn bend_to_merge(r: &mut Rng, s: &mut State) {
+    let elapsed = if r.chance(1, 8) { r.pick(&[-3, -2, -1, 0, 38, 39, 40, 41]) } else { r.within(0, 39) };
+    s.displaying = true;
+    s.entering = false;
+    s.output_disabled = false;
+    s.rc = 0;
+    // One of the two things that keep a line from being bad.
+    if r.flag() {
+        s.den_latch = false;
+    } else {
+        s.ctrl1 = (s.ctrl1 & 0xF8) | (s.raster as u8).wrapping_add(r.within(1, 7) as u8) & 7;
+    }
+    // The left border's compare, in cycle 17 or 18, may disable the output again.
+    if r.chance(3, 4) {
+        s.bottom = 0xFFFF;
+    }
+    s.clock = s.clock.clamp(64, CLOCK_LIMIT - 64);
+    s.forced_clock = s.clock - elapsed;
+    // The two indices apart, together and next to each other.
+    if r.chance(1, 4) {
+        let near = (elapsed + r.within(-1, 1)).clamp(0, vmli_limit(s.cycle).into());
+        s.vmli = near as u8;
+    }
+}
+
+/// Bends a state so that the next tick's graphics access is in the middle of a mode change.
+pub fn bend_to_mode_change(r: &mut Rng, s: &mut State, from: u8, to: u8) {
+    s.displaying = true;
+    s.entering = r.chance(1, 8);
+    s.previous_mode = from;
+    s.ctrl1 = (s.ctrl1 & 0x9F) | (to & 4) << 4 | (to & 2) << 4;
+    s.ctrl2 = (s.ctrl2 & 0xEF) | (to & 1) << 4;
+}
+
+/// Bends a state so that the next tick's graphics access is idle, with or without the place of 0x38FF.
+pub fn bend_to_idle(r: &mut Rng, s: &mut State) {
+    s.entering = r.chance(3, 4);
+    s.displaying = s.entering && r.flag();
+    s.clock = s.clock.clamp(64, CLOCK_LIMIT - 64);
+    s.forced_clock = s.clock + r.pick(&[0, 1, 2, 2, 2, 3, 4]);
+}
+
+/// Puts one field at the edge of what is accepted, or just past it.
+pub fn bend_to_edge(r: &mut Rng, s: &mut State, past: bool) {
+    fn choose<T: Copy>(r: &mut Rng, past: bool, inside: &[T], outside: &[T]) -> T {
+        r.pick(if past { outside } else { inside })
+    }
+    let k = r.below(8) as usize;
+    match r.below(14) {
+        0 if past => s.cycle = r.pick(&[0, 64, 65, 256, 0x3F01, 0xFFFF]),
+        0 | 1 => s.raster = choose(r, past, &[0, 311], &[312, 511, 512, 0x0130 + 0x200, 0xFFFF]),
+        2 => s.compare = choose(r, past, &[0, 511, 312], &[512, 0x8000, 0xFFFF]),
+        3 => s.aec_counter = choose(r, past, &[-1, 3], &[-2, 4, -128, 127]),
+        4 => s.vc = choose(r, past, &[0, 1023], &[1024, 0xFFFF]),
+        5 => s.vc_base = choose(r, past, &[0, 1023], &[1024, 0xFFFF]),
+        6 => s.rc = choose(r, past, &[0, 7], &[8, 255]),
+        7 => s.sprites[k].mc = choose(r, past, &[0, 63], &[64, 255]),
+        8 => s.sprites[k].base = choose(r, past, &[0, 63], &[64, 255]),
+        9 if past => s.sprites[k].number = if r.flag() { r.pick(&[8, 255]) } else { (k as u8 + 1) & 7 },
+        9 | 10 => {
+            let limit = vmli_limit(s.cycle);
+            s.vmli = choose(r, past, &[0, limit], &[limit + 1, 41, 255]);
+        }
+        11 => s.clock = choose(r, past, &[0, CLOCK_LIMIT - 3, CLOCK_LIMIT - 2], &[-1, -2, CLOCK_LIMIT + 1, i64::MIN, i64::MAX]),
+        12 => s.forced_clock = choose(r, past, &[0, CLOCK_LIMIT], &[-1, -40, CLOCK_LIMIT + 1, i64::MIN, i64::MAX]),
+        // An accepted clock from which no tick is possible.
+        _ => s.clock = r.pick(&[CLOCK_LIMIT - 1, CLOCK_LIMIT]),
+    }
+}
+
+/// Any scene at all. Few of these are accepted; the calls that never refuse take them.
+pub fn wild_state(r: &mut Rng) -> State {
+    let mut s = accepted_state(r, 1);
+    s.cycle = if r.flag() { r.below(70) as u16 } else { r.word() };
+    s.raster = r.word();
+    s.compare = r.word();
+    s.top = r.word();
+    s.bottom = r.word();
+    s.vc = r.word();
+    s.vc_base = r.word();
+    s.rc = r.byte();
+    s.vmli = r.byte();
+    s.aec_counter = r.byte() as i8;
+    s.clock = any_clock(r);
+    s.forced_clock = any_clock(r);
+    for sprite in &mut s.sprites {
+        sprite.number = r.byte();
+        sprite.mc = r.byte();
+        sprite.base = r.byte();
+    }
+    s
+}
+
+/// The state's line, and the one that the next tick compares: cycle 1 moves the raster on first, but
+/// not from the last line.
+fn lines(r: &mut Rng, cycle: u16) -> (u16, u16) {
+    let line = if r.chance(2, 5) { r.pick(&LINES) } else { r.below(312) as u16 };
+    match cycle {
+        63 if line == 0 || r.chance(1, 6) => (311, 311),
+        63 if r.chance(1, 6) => (0x2F, 0x30),
+        63 => (line - 1, line),
+        _ => (line, line),
+    }
+}
+
+fn array<const N: usize>(r: &mut Rng) -> [u8; N] {
+    std::array::from_fn(|_| r.byte())
+}
+
+/// DEN is mostly set, and YSCROLL often meets the line.
+fn ctrl1(r: &mut Rng, raster: u16) -> u8 {
+    let mut value = r.byte();
+    if r.chance(1, 2) {
+        value |= 0x10;
+    }
+    if r.chance(3, 5) {
+        value = (value & 0xF8) | (raster as u8 & 7);
+    }
+    value
+}
+
+fn compare_line(r: &mut Rng, raster: u16) -> u16 {
+    match r.below(6) {
+        0 | 1 => raster,
+        2 => 0,
+        3 => r.pick(&LINES),
+        _ => r.below(512) as u16,
+    }
+}
+
+/// The two lines of the chip mostly, at times the present line, at times any number.
+fn border_line(r: &mut Rng, with_rsel: u16, without: u16, raster: u16) -> u16 {
+    match r.below(6) {
+        0 | 1 => with_rsel,
+        2 => without,
+        3 | 4 => raster,
+        _ => r.word(),
+    }
+}
+
+fn counter(r: &mut Rng) -> u8 {
+    if r.chance(1, 4) {
+        r.pick(&[0, 3, 60, 61, 62, 63])
+    } else {
+        r.byte() & 63
+    }
+}
+
+fn video_counter(r: &mut Rng) -> u16 {
+    if r.chance(1, 6) {
+        r.pick(&[0, 39, 40, 960, 999, 1000, 1022, 1023])
+    } else {
+        r.below(1024) as u16
+    }
+}
+
+fn row(r: &mut Rng) -> u8 {
+    match r.below(4) {
+        0 => 0,
+        1 => 7,
+        _ => r.byte() & 7,
+    }
+}
+
+fn clock(r: &mut Rng) -> i64 {
+    match r.below(8) {
+        0 => r.within(0, 200),
+        1 => CLOCK_LIMIT - 2 - r.within(0, 200),
+        2 => r.within(0, CLOCK_LIMIT - 2),
+        // What runs have: even, and not far from 0.
+        _ => 2 * r.within(0, 1 << 24),
+    }
+}
+
+/// Near the clock mostly, where the merge and 0x38FF look at it.
+fn forced_clock(r: &mut Rng, clock: i64) -> i64 {
+    let forced = match r.below(6) {
+        0 => 0,
+        1 => r.within(0, CLOCK_LIMIT),
+        2 => clock + 2,
+        _ => clock - r.within(-4, 44),
+    };
+    forced.clamp(0, CLOCK_LIMIT)
+}
+
+fn any_clock(r: &mut Rng) -> i64 {
+    match r.below(4) {
+        0 => r.next() as i64,
+        1 => r.pick(&[-1, 0, CLOCK_LIMIT, CLOCK_LIMIT + 1, i64::MIN, i64::MAX]),
+        _ => r.within(0, CLOCK_LIMIT),
+    }
+}

@@ -1,0 +1,106 @@
+//! States as runs have them: a host that ticks the original from power-up and calls it at random.
+
+use crate::memory::Memory;
+use crate::rng::Rng;
+use crate::scene::State;
+use crate::vic::glue::Machine;
+
+/// Ticks of one frame.
+const FRAME: u64 = 63 * 312;
+
+pub struct Walker {
+    machine: Machine,
+    /// How many ticks lie between two calls, about: from a busy host to a quiet one.
+    quiet: u64,
+    /// Ticks left until the next power-up.
+    left: u64,
+}
+
+impl Walker {
+    pub fn new(memory: Memory) -> Self {
+        Self { machine: Machine::new(memory), quiet: 1, left: 0 }
+    }
+
+    /// Ticks on to the next time at this cycle, by way of at least a few lines at times.
+    pub fn state_at(&mut self, r: &mut Rng, cycle: u16) -> State {
+        if r.chance(1, 4) {
+            for _ in 0..r.below(4 * 63) {
+                self.advance(r);
+            }
+        }
+        self.advance(r);
+        while self.machine.state().cycle != cycle {
+            self.advance(r);
+        }
+        // Some hosts have called since the tick.
+        if r.chance(1, 3) {
+            self.call(r);
+        }
+        self.machine.state()
+    }
+
+    fn advance(&mut self, r: &mut Rng) {
+        if self.left == 0 {
+            self.machine.power_up();
+            self.machine.memory.bank = r.below(4) as u8;
+            self.quiet = r.pick(&[3, 20, 120, 1000]);
+            self.left = FRAME + r.below(3 * FRAME);
+            self.set_up(r);
+        }
+        self.left -= 1;
+        if r.chance(1, self.quiet) {
+            self.call(r);
+        }
+        self.machine.tick().expect("runs from power-up stay accepted");
+        // A board hands over its byte after every cycle; some hosts forget it at times.
+        if r.chance(3, 4) {
+            self.machine.late_byte(r.byte()).expect("runs from power-up stay accepted");
+        }
+    }
+
+    /// What a program does first, so that a quiet host has something on its screen too.
+    fn set_up(&mut self, r: &mut Rng) {
+        self.controls(r);
+        self.machine.border_compares();
+        self.machine.write(0x15, r.mask());
+        self.machine.write(0x18, r.byte());
+        self.machine.write(0x1A, r.byte());
+        self.machine.write_y_expand(r.mask());
+        for k in 0..8 {
+            self.machine.write(2 * k + 1, r.byte());
+        }
+    }
+
+    fn controls(&mut self, r: &mut Rng) {
+        let raster = self.machine.state().raster;
+        let mut ctrl1 = r.byte();
+        if r.chance(4, 5) {
+            ctrl1 |= 0x10;
+        }
+        if r.chance(1, 2) {
+            ctrl1 = (ctrl1 & 0xF8) | (raster as u8 & 7);
+        }
+        let compare = if r.flag() { r.below(512) as u16 } else { (raster + r.below(3) as u16) % 312 };
+        self.machine.place_controls(ctrl1, r.byte(), compare).expect("the line is below 512");
+    }
+
+    fn call(&mut self, r: &mut Rng) {
+        let raster = self.machine.state().raster as u8;
+        match r.below(10) {
+            0 | 1 => self.controls(r),
+            2 => self.machine.write(r.byte(), r.byte()),
+            // A sprite on this line or the next.
+            3 => self.machine.write(2 * r.below(8) as u8 + 1, raster.wrapping_add(r.below(3) as u8)),
+            4 => self.machine.write(0x15, r.mask()),
+            5 => self.machine.write_y_expand(r.mask()),
+            6 => self.machine.border_compares(),
+            // What a $D011 write does that forces a bad line.
+            7 => {
+                self.controls(r);
+                self.machine.place_display(true, r.flag(), r.flag(), r.flag()).expect("the clock is small");
+            }
+            8 => self.machine.place_display(r.flag(), r.flag(), r.flag(), r.flag()).expect("the clock is small"),
+            _ => self.machine.memory.bank = r.below(4) as u8,
+        }
+    }
+}
