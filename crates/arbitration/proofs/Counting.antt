@@ -9,7 +9,8 @@ use lib.Signed.{ltZ}
 use borrow.Author.Tests.{le-ltb}
 use mir.Val.{SFits}
 use mir.Syntax.{w8, w64}
-use Rattle.arbitration.specs.Bus.{down, low, inRange}
+use Rattle.laws.specs.Clock.{inRange}
+use Rattle.arbitration.specs.Bus.{down, low}
 
 not-below-zero : (n : ℕ) → ltb n 0 ≡ false
 not-below-zero n = le-ltb n 0 (omega arith)

@@ -1,5 +1,5 @@
 -- BA warns the CPU and AEC takes the bus (Bauer 3.6.1).
-use Prim.Native.Nat.{ℕ, zero, suc, _≤_}
+use Prim.Native.Nat.{ℕ, zero, suc}
 use mathlib.Core.Bool.{Bool, true, false, not, _&&_, _||_, cond}
 use lib.Dec.{eqb}
 use lib.Bits.{bitAnd}
@@ -11,11 +11,6 @@ use Rattle.arbitration.specs.declared.Bus.{Bus}
 -- 01, power-up: clock 0, AEC counter 3
 unfoldable pub fresh : Bus
 fresh = record { clock = pos 0; fall = pos 0; rise = pos 0; aec = pos 3; balow = false; aeclow = false }
-
--- 01, States we accept: a clock is 0 to 2 ^ 62
-abbrev pub inRange : ℤ → Type 0
-inRange (pos n) = n ≤ 4611686018427387904
-inRange (negsuc n) = ⊥
 
 -- 01, tick 1: clock +2
 unfoldable pub clockOn : ℤ → ℤ

@@ -2,7 +2,8 @@
 ghost use mathlib.Core.Path.{_≡_};
 ghost use mathlib.Core.Bool.{Bool, cond};
 ghost use lib.IntN.{ℤ};
-ghost use Rattle.arbitration.specs.Bus.{fresh, inRange, clockOn, spriteAsks, requested, aecAfter, low, arbitrated, phi1Mask, phi1High};
+ghost use Rattle.laws.specs.Clock.{inRange};
+ghost use Rattle.arbitration.specs.Bus.{fresh, clockOn, spriteAsks, requested, aecAfter, low, arbitrated, phi1Mask, phi1High};
 
 pub struct Bus {
     pub clock: i64,
