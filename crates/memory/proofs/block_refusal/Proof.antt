@@ -1,23 +1,25 @@
+use borrow.Author.Tests.{eq-eqb, ne-eqb, lt-ltb, le-ltb}
+use Rattle.memory.specs.Memory.{blockRefusal}
 use Rattle.memory.proofs.block_refusal.Statement.{statement}
 use Rattle.memory.proofs.block_refusal.Tie as tie
-use Rattle.memory.proofs.block_refusal.Reads as reads
-use Rattle.memory.proofs.block_refusal.Lts as lts
 
--- src/lib.rt:37:9
 returns : tie.Need-returns
-returns c = ?
+unfolding blockRefusal
+returns c = simp (ne-eqb _ _ (c .if1 .taken))
 
--- src/lib.rt:40:9
 returns-2 : tie.Need-returns-2
-returns-2 c = ?
+unfolding blockRefusal
+returns-2 c = simp (eq-eqb _ _ (c .before .if1 .left), ne-eqb _ _ (c .if2 .taken))
 
--- src/lib.rt:43:9
 returns-3 : tie.Need-returns-3
-returns-3 c = ?
+unfolding blockRefusal
+returns-3 c =
+    simp (eq-eqb _ _ (c .before .before .if1 .left), eq-eqb _ _ (c .before .if2 .left), lt-ltb _ _ (c .if3 .taken))
 
--- src/lib.rt:33:1
 returns-4 : tie.Need-returns-4
-returns-4 c = ?
+unfolding blockRefusal
+returns-4 c =
+    simp (eq-eqb _ _ (c .before .before .if1 .left), eq-eqb _ _ (c .before .if2 .left), le-ltb _ _ (c .if3 .left))
 
 pub block-refusal-spec : {M : Type 1} → statement M
 block-refusal-spec = tie.close (tie.spec returns returns-2 returns-3 returns-4)

@@ -1,0 +1,48 @@
+-- 01, Twelve settled by proof: the worked examples, of the definitions that the promises name.
+use mathlib.Core.Path.{_≡_, refl}
+use mathlib.Core.Bool.{Bool, true, false}
+use Prim.Native.Nat.{ℕ}
+use Rattle.laws.specs.Bits.{hasBit}
+use Rattle.schedule.specs.Requests.{maskAt}
+use Rattle.timing.specs.Beam.{badLine}
+use Rattle.sprites.specs.Sprites.{crunched, nextBase, stepped}
+use Rattle.sprites.specs.declared.Sprite.{Sprite}
+
+-- sprite 0 with these counters
+abbrev sprite : ℕ → ℕ → Bool → Sprite
+sprite base mc dma = record { number = 0; mc = mc; base = base; dma = dma }
+
+pub record Worked : Type 0 where
+  -- 1. line 0x30, YSCROLL 0, latched: bad
+  pub line-30 : badLine 0x30 0 true ≡ true
+  -- 2. line 0x2F, YSCROLL 7: not
+  pub line-2F : badLine 0x2F 7 true ≡ false
+  -- 3. line 0xF7, YSCROLL 7: bad
+  pub line-F7 : badLine 0xF7 7 true ≡ true
+  -- 4. line 0xF8, YSCROLL 0: not
+  pub line-F8 : badLine 0xF8 0 true ≡ false
+  -- 5. mask at 63: 0x1C
+  pub mask-63 : maskAt 63 ≡ 0x1C
+  -- 6. mask at 54: 0
+  pub mask-54 : maskAt 54 ≡ 0
+  -- 7. mask at 55: 0x01
+  pub mask-55 : maskAt 55 ≡ 0x01
+  -- 8. base 3, MC 6, flip, clearing: 7
+  pub crunch-7 : nextBase true true 3 6 ≡ 7
+  -- 9. base 60, MC 63, flip: 63, DMA off
+  pub base-63 : stepped true false (sprite 60 63 true) ≡ sprite 63 63 false
+
+pub worked : Worked
+unfolding badLine maskAt crunched nextBase stepped hasBit
+worked =
+    record {
+      line-30 = refl;
+      line-2F = refl;
+      line-F7 = refl;
+      line-F8 = refl;
+      mask-63 = refl;
+      mask-54 = refl;
+      mask-55 = refl;
+      crunch-7 = refl;
+      base-63 = refl;
+    }

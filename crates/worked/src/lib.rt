@@ -1,0 +1,1 @@
+// The worked examples that are settled by proof; their table is in specs/Worked.antt.
