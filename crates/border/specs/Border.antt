@@ -24,7 +24,7 @@ topReached b raster den = eqb raster (b .top) && den
 unfoldable pub turned : Border → Bool → Bool → Border
 turned b reached on = cond reached (vertical≔ on b) b
 
--- departs, DIFFERENCES: the test in cycle 1 isn't in the article; first the top line, then the bottom line
+-- departs, DIFFERENCES 6: the test in cycle 1 isn't in the article; first the top line, then the bottom line
 unfoldable pub lineBegun : Border → ℕ → Bool → Border
 lineBegun b raster den = turned (turned b (topReached b raster den) false) (bottomReached b raster) true
 
