@@ -33,7 +33,7 @@ LongM m x = Long m (x .matrix)
 pub filled-length : (m : List ℕ) (go : Bool) (vmli vc ptrs : ℕ) (ram rom colour : List ℕ) (bank : ℕ)
     → length (filled m go vmli vc ptrs ram rom colour bank) ≡ length m
 unfolding filled
-filled-length m go vmli vc ptrs ram rom colour bank = either (Long m) go (length-set _ _ _) refl
+filled-length m go vmli vc ptrs ram rom colour bank = either (Long m) go (simp length-set) refl
 
 pub mergedAt-length : (m : List ℕ) (cycle f vmli old : ℕ) → length (mergedAt m cycle f vmli old .matrix) ≡ length m
 unfolding mergedAt

@@ -251,10 +251,10 @@ pub fn bmm_fell(fell: bool, ptrs: u8, vc: u16, rc: u8, bank: u8, address: u16) -
 }
 
 // The first access after ECM fell: its mask is still on the address.
-pub fn ecm_fell(fell: bool, into_bitmap: bool, bank: u8, address: u16) -> u16
-    ensures { λ r. ⌜ r ≡ ecmFell fell into_bitmap bank address ⌝ }
+pub fn ecm_fell(fell: bool, bitmap: bool, bank: u8, address: u16) -> u16
+    ensures { λ r. ⌜ r ≡ ecmFell fell bitmap bank address ⌝ }
 {
-    let masked = fell & (into_bitmap | memory::in_rom(bank, address));
+    let masked = fell & (bitmap | memory::in_rom(bank, address));
     ecm_masked(masked, address)
 }
 

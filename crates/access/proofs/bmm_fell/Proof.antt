@@ -1,3 +1,4 @@
+use borrow.Author.Tests.{not-true, not-false}
 use Rattle.access.specs.Graphics.{bmmFell}
 use borrow.Author.Needs.{needs}
 use Rattle.access.proofs.bmm_fell.Statement.{statement}
@@ -5,7 +6,7 @@ use Rattle.access.proofs.bmm_fell.Tie as tie
 
 returns : tie.Need-returns
 unfolding bmmFell
-returns c = simp (c .if1 .taken)
+returns c = simp (not-true (c .before .args .fell) (c .if1 .taken))
 
 bitmap-address-requires : tie.Need-bitmap-address-requires
 bitmap-address-requires c κs = search needs
@@ -21,11 +22,11 @@ add-result c = search needs
 
 returns-2 : tie.Need-returns-2
 unfolding bmmFell
-returns-2 c = simp (c .before .before .bitmap-address .ensures, ← c .before .in-rom .ensures, c .if2 .taken, c .before .before .before .if1 .left)
+returns-2 c = simp (c .before .before .bitmap-address .ensures, ← c .before .in-rom .ensures, c .if2 .taken, not-false (c .before .before .before .before .args .fell) (c .before .before .before .if1 .left))
 
 returns-3 : tie.Need-returns-3
 unfolding bmmFell
-returns-3 c = simp (c .before .before .bitmap-address .ensures, ← c .before .in-rom .ensures, c .if2 .left, c .before .before .before .if1 .left)
+returns-3 c = simp (c .before .before .bitmap-address .ensures, ← c .before .in-rom .ensures, c .if2 .left, not-false (c .before .before .before .before .args .fell) (c .before .before .before .if1 .left))
 
 pub bmm-fell-spec : {M : Type 1} → statement M
 bmm-fell-spec =
