@@ -1,14 +1,16 @@
 -- What the steps leave as it is: a place is one of the forty, and no list changes its length. Assumes nothing.
-use Prim.Native.Nat.{ℕ, _+_, _*_, _%_, _<_}
-use mathlib.Core.Path.{_≡_, refl, _∙_}
+use Prim.Native.Nat.{ℕ, _<_}
+use mathlib.Core.Path.{_≡_, refl}
 use mathlib.Core.Bool.{Bool, not}
 use mathlib.Core.List.{List}
 use native.Mathlib.Omega.{arith}
 use lib.Dec.{eqb, ltb, leb}
 use lib.ListN.{length, length-set}
 use Rattle.laws.proofs.Choice.{either}
-use Rattle.access.specs.Matrix.{placeOf, filled}
+use Rattle.access.specs.Matrix.{placeOf, filled, pendingAfter}
 use Rattle.access.specs.Merge.{Merging, previousOf, mergedAt, merged, latched}
+use Rattle.access.specs.declared.Pending.{Pending}
+use Rattle.access.specs.declared.Pending.the-variants.{Nothing, At}
 use Rattle.access.specs.Slots.{pointersAfter, byteTwoAfter, dataAfter, wordsAfter}
 
 pub place-small : (v : ℕ) → placeOf v < 40
@@ -23,6 +25,15 @@ previous-small f v =
     (either (λ (p : ℕ). p < 40) (ltb v f) (place-small _)
     (either (λ (p : ℕ). p < 40) (eqb f 0) (place-small _) (place-small _)))
 
+-- and the place that is pending, if there is one
+abbrev pub Pends : Pending → Type 0
+Pends Nothing = Unit
+Pends (At p) = p < 40
+
+pub pending-small : (missed : Bool) (vmli : ℕ) (old : Pending) → Pends old → Pends (pendingAfter missed vmli old)
+unfolding pendingAfter
+pending-small missed vmli old h = either Pends missed (place-small vmli) h
+
 -- a list as long as m, and a merge that leaves such a one
 abbrev Long : List ℕ → List ℕ → Type 0
 Long m x = length x ≡ length m
@@ -35,13 +46,13 @@ pub filled-length : (m : List ℕ) (go : Bool) (vmli vc ptrs : ℕ) (ram rom col
 unfolding filled
 filled-length m go vmli vc ptrs ram rom colour bank = either (Long m) go (simp length-set) refl
 
-pub mergedAt-length : (m : List ℕ) (cycle f vmli old : ℕ) → length (mergedAt m cycle f vmli old .matrix) ≡ length m
+merged-at-length : (m : List ℕ) (cycle f vmli old : ℕ) → length (mergedAt m cycle f vmli old .matrix) ≡ length m
 unfolding mergedAt
-mergedAt-length m cycle f vmli old = simp length-set
+merged-at-length m cycle f vmli old = simp length-set
 
-pub merged-length : (m : List ℕ) (cycle f vmli old : ℕ) → length (merged m cycle f vmli old .matrix) ≡ length m
+merged-length : (m : List ℕ) (cycle f vmli old : ℕ) → length (merged m cycle f vmli old .matrix) ≡ length m
 unfolding merged
-merged-length m cycle f vmli old = either (LongM m) (leb 40 f) refl (mergedAt-length m cycle f vmli old)
+merged-length m cycle f vmli old = either (LongM m) (leb 40 f) refl (merged-at-length m cycle f vmli old)
 
 pub latched-length : (m : List ℕ) (moves hidden plain : Bool) (cycle f vmli ch carry : ℕ)
     → length (latched m moves hidden plain cycle f vmli ch carry .matrix) ≡ length m

@@ -64,7 +64,14 @@ same-length-2 c = search needs
 
 returns : tie.Need-returns
 unfolding dataAfter wordsAfter byteOne byteZero
-returns c = let p = c .before .before .or-open2 .ensures in let q = c .before .before .before .or-open .ensures in let r = c .before .before .before .before .read2 .ensures in let s = c .before .before .before .before .before .byte-address2 .ensures in let t = c .before .before .before .before .before .before .read .ensures in let u = c .before .before .before .before .before .before .before .byte-address .ensures in (simp (p, q, r, s, t, u), simp (c .word-of .ensures, p, q, r, s, t, u))
+returns c =
+    let p = c .before .before .or-open2 .ensures in
+    let q = c .before .before .before .or-open .ensures in
+    let r = c .before .before .before .before .read2 .ensures in
+    let s = c .before .before .before .before .before .byte-address2 .ensures in
+    let t = c .before .before .before .before .before .before .read .ensures in
+    let u = c .before .before .before .before .before .before .before .byte-address .ensures in
+    (simp (p, q, r, s, t, u), simp (c .word-of .ensures, p, q, r, s, t, u))
 
 pub data-slot-spec : {M : Type 1} → statement M
 data-slot-spec =

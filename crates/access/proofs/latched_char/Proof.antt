@@ -27,7 +27,11 @@ slice-read-t15 c = omega (arith, c .before .place .ensures, place-small (c .befo
 
 returns-3 : tie.Need-returns-3
 unfolding latched
-returns-3 c = let t = c .before .before .before .before .if1 .left in let u = c .before .before .before .if2 .left in let v = c .before .before .if3 .taken in (simp (t, u, v, c .before .place .ensures), simp (t, u, v))
+returns-3 c =
+    let t = c .before .before .before .before .if1 .left in
+    let u = c .before .before .before .if2 .left in
+    let v = c .before .before .if3 .taken in
+    (simp (t, u, v, c .before .place .ensures), simp (t, u, v))
 
 merge-requires : tie.Need-merge-requires
 merge-requires c κs = search needs
@@ -37,7 +41,11 @@ same-length c = search needs
 
 returns-4 : tie.Need-returns-4
 unfolding latched
-returns-4 c = let t = c .before .before .before .before .before .before .if1 .left in let u = c .before .before .before .before .before .if2 .left in let v = c .before .before .before .before .if3 .left in (simp (c .before .before .merge .ensures .0, t, u, v), simp (c .before .before .merge .ensures .1, t, u, v))
+returns-4 c =
+    let t = c .before .before .before .before .before .before .if1 .left in
+    let u = c .before .before .before .before .before .if2 .left in
+    let v = c .before .before .before .before .if3 .left in
+    (simp (c .before .before .merge .ensures .0, t, u, v), simp (c .before .before .merge .ensures .1, t, u, v))
 
 pub latched-char-spec : {M : Type 1} → statement M
 latched-char-spec =

@@ -20,7 +20,9 @@ slice-read-t11 c = omega (arith, c .before .place .ensures, place-small (c .befo
 
 returns : tie.Need-returns
 unfolding merged
-returns c = let t = le-leb _ _ (c .before .before .if1 .taken) in (simp (t, c .before .place .ensures), simp t)
+returns c =
+    let t = le-leb _ _ (c .before .before .if1 .taken) in
+    (simp (t, c .before .place .ensures), simp t)
 
 merge-at-requires : tie.Need-merge-at-requires
 merge-at-requires c κs = search needs
@@ -30,7 +32,9 @@ same-length c = search needs
 
 returns-2 : tie.Need-returns-2
 unfolding merged
-returns-2 c = let t = lt-leb _ _ (c .before .before .before .before .if1 .left) in (simp (c .before .before .merge-at .ensures .0, t), simp (c .before .before .merge-at .ensures .1, t))
+returns-2 c =
+    let t = lt-leb _ _ (c .before .before .before .before .if1 .left) in
+    (simp (c .before .before .merge-at .ensures .0, t), simp (c .before .before .merge-at .ensures .1, t))
 
 pub merge-spec : {M : Type 1} → statement M
 merge-spec =

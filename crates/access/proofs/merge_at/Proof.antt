@@ -65,7 +65,13 @@ same-length c = search needs
 
 returns : tie.Need-returns
 unfolding mergedAt
-returns c = let e = c .mix .ensures in let f = c .before .carry-of .ensures in let g = c .before .before .before .before .before .place2 .ensures in let h = c .before .before .before .before .before .before .place .ensures in let i = c .before .before .before .before .before .before .before .previous-place .ensures in (simp (e, f, g, h, i), simp (e, f, g, h, i))
+returns c =
+    let e = c .mix .ensures in
+    let f = c .before .carry-of .ensures in
+    let g = c .before .before .before .before .before .place2 .ensures in
+    let h = c .before .before .before .before .before .before .place .ensures in
+    let i = c .before .before .before .before .before .before .before .previous-place .ensures in
+    (simp (e, f, g, h, i), simp (e, f, g, h, i))
 
 pub merge-at-spec : {M : Type 1} → statement M
 merge-at-spec =

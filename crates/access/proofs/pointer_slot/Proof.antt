@@ -50,7 +50,10 @@ same-length-2 c = search needs
 
 returns : tie.Need-returns
 unfolding pointersAfter byteTwoAfter
-returns c = let s = c .before .before .before .read .ensures in let t = c .before .before .before .before .wide .ensures in (simp (s, t), simp (c .or-open .ensures, c .before .read2 .ensures, c .before .before .byte-address .ensures, s, t))
+returns c =
+    let s = c .before .before .before .read .ensures in
+    let t = c .before .before .before .before .wide .ensures in
+    (simp (s, t), simp (c .or-open .ensures, c .before .read2 .ensures, c .before .before .byte-address .ensures, s, t))
 
 pub pointer-slot-spec : {M : Type 1} → statement M
 pointer-slot-spec =
