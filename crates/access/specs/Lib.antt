@@ -1,0 +1,4 @@
+pub mod Matrix
+pub mod Merge
+pub mod Graphics
+pub mod Slots

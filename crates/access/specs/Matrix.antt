@@ -1,0 +1,34 @@
+-- Character accesses and the matrix line (Bauer 3.7.2 rule 3, 3.14.6).
+use Prim.Native.Nat.{ℕ, _+_, _*_, _/_, _%_}
+use mathlib.Core.Bool.{Bool, cond}
+use mathlib.Core.List.{List}
+use lib.ListN.{getD, set}
+use Rattle.memory.specs.Memory.{readAt}
+use Rattle.access.specs.declared.Pending.{Pending}
+use Rattle.access.specs.declared.Pending.the-variants.{Nothing, At}
+
+-- the forty places of the matrix line
+unfoldable pub placeOf : ℕ → ℕ
+placeOf vmli = vmli % 40
+
+-- Bauer 3.7.2 rule 3: the video matrix at VC, ten bits, in the kilobyte that 0x18's upper nibble picks
+abbrev pub matrixAddress : ℕ → ℕ → ℕ
+matrixAddress ptrs vc = ptrs / 16 * 0x400 + vc % 0x400
+
+-- Bauer 3.6.2: twelve bits, the screen code and the colour nibble above it
+unfoldable pub matrixWord : List ℕ → List ℕ → List ℕ → ℕ → ℕ → ℕ → ℕ
+matrixWord ram rom colour bank ptrs vc =
+    getD colour (vc % 0x400) 0 % 16 * 256 + readAt ram rom bank (matrixAddress ptrs vc) .byte
+
+-- Bauer 3.7.2 rule 3: each access stores at VMLI
+unfoldable pub filled : List ℕ → Bool → ℕ → ℕ → ℕ → List ℕ → List ℕ → List ℕ → ℕ → List ℕ
+filled matrix go vmli vc ptrs ram rom colour bank =
+    cond go (set matrix (placeOf vmli) (matrixWord ram rom colour bank ptrs vc)) matrix
+
+-- 01, corner 21: when AEC is not low the place becomes pending and replaces an earlier one
+unfoldable pub pendingAfter : Bool → ℕ → Pending → Pending
+pendingAfter missed vmli old = cond missed (At (placeOf vmli)) old
+
+-- Bauer 3.14.6; 01, Late byte: the CPU's low nibble in the high byte, 0xFF below
+unfoldable pub lateWord : ℕ → ℕ
+lateWord byte = byte % 16 * 256 + 0xFF

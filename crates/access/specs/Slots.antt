@@ -1,0 +1,53 @@
+-- A sprite's two slots (Bauer 3.6.3, 3.8.1 rule 5). Byte k·3 + c of the bytes is byte c of sprite k.
+use Prim.Native.Nat.{ℕ, _+_, _*_, _/_, _%_}
+use mathlib.Core.Bool.{Bool, not, _&&_, _||_, cond}
+use mathlib.Core.List.{List}
+use lib.ListN.{getD, set}
+use Rattle.memory.specs.Memory.{readAt}
+
+-- Bauer 3.6.2: the last eight bytes of the video matrix
+abbrev pub pointerAddress : ℕ → ℕ → ℕ
+pointerAddress ptrs k = ptrs / 16 * 0x400 + 0x3F8 + k
+
+-- Bauer 3.6.2: pointer · 64 + MC, six bits; the idle address without DMA
+unfoldable pub byteAddress : Bool → ℕ → ℕ → ℕ
+byteAddress on pointer mc = cond on (pointer * 64 + mc % 64) 0x3FFF
+
+-- the open bus reads 0xFF
+unfoldable pub orOpen : Bool → ℕ → ℕ
+orOpen seen byte = cond seen byte 0xFF
+
+-- Bauer 3.6.3: the pointer is always read
+abbrev pub pointerOf : ℕ → ℕ → List ℕ → List ℕ → ℕ → ℕ
+pointerOf k ptrs ram rom bank = readAt ram rom bank (pointerAddress ptrs k) .byte
+
+unfoldable pub pointersAfter : List ℕ → ℕ → ℕ → List ℕ → List ℕ → ℕ → List ℕ
+pointersAfter pointers k ptrs ram rom bank = set pointers k (pointerOf k ptrs ram rom bank)
+
+-- 01, corner 19; departs, DIFFERENCES 10: with DMA it is read whatever AEC is, but for sprite 0's first; without it only with AEC low
+unfoldable pub byteTwoAfter : List ℕ → ℕ → Bool → Bool → ℕ → Bool → ℕ → List ℕ → List ℕ → ℕ → List ℕ
+byteTwoAfter bytes k first on mc low ptrs ram rom bank =
+    set bytes (k * 3 + 2)
+    (orOpen ((on && not first) || low) (readAt ram rom bank (byteAddress on (pointerOf k ptrs ram rom bank) mc) .byte))
+
+-- 01, corner 19: without the mask byte 1 reads the idle address always; with it, only the flag or AEC lets it
+unfoldable pub byteOne : List ℕ → ℕ → Bool → Bool → ℕ → Bool → List ℕ → List ℕ → ℕ → ℕ
+byteOne pointers k mask flag mc low ram rom bank =
+    orOpen (not mask || flag || low) (readAt ram rom bank (byteAddress (mask && flag) (getD pointers k 0) mc) .byte)
+
+unfoldable pub byteZero : List ℕ → ℕ → Bool → Bool → ℕ → Bool → List ℕ → List ℕ → ℕ → ℕ
+byteZero pointers k mask flag mc low ram rom bank =
+    orOpen ((mask && flag) || low) (readAt ram rom bank (byteAddress (mask && flag) (getD pointers k 0) (mc % 64 + 1)) .byte)
+
+unfoldable pub dataAfter : List ℕ → List ℕ → ℕ → Bool → Bool → ℕ → Bool → List ℕ → List ℕ → ℕ → List ℕ
+dataAfter pointers bytes k mask flag mc low ram rom bank =
+    set (set bytes (k * 3) (byteZero pointers k mask flag mc low ram rom bank)) (k * 3 + 1) (byteOne pointers k mask flag mc low ram rom bank)
+
+-- Bauer 3.8.1 rule 5: byte 2 is the most significant
+unfoldable pub wordOf : ℕ → ℕ → ℕ → ℕ
+wordOf two one zero' = two * 65536 + one * 256 + zero'
+
+unfoldable pub wordsAfter : List ℕ → List ℕ → List ℕ → ℕ → Bool → Bool → ℕ → Bool → List ℕ → List ℕ → ℕ → List ℕ
+wordsAfter pointers bytes words k mask flag mc low ram rom bank =
+    set words k
+    (wordOf (getD bytes (k * 3 + 2) 0) (byteOne pointers k mask flag mc low ram rom bank) (byteZero pointers k mask flag mc low ram rom bank))

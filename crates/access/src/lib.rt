@@ -1,0 +1,383 @@
+// What the chip reads in a cycle: the matrix, the graphics, the sprites' slots, and what an access leaves behind.
+// The picture's arrays are lent; every step takes any number, so that a state's bounds need not travel.
+ghost use mathlib.Core.Path.{_≡_};
+ghost use mathlib.Core.Bool.{Bool, cond, not, _&&_, _||_};
+ghost use Prim.Native.Nat.{_<_};
+ghost use lib.ListN.{length};
+ghost use lib.IntN.{ℤ};
+ghost use Rattle.laws.specs.Clock.{inRange};
+ghost use Rattle.memory.specs.Memory.{Lent};
+ghost use Rattle.access.specs.Matrix.{placeOf, matrixWord, filled, lateWord, pendingAfter};
+ghost use Rattle.access.specs.Merge.{sinceOf, previousOf, carryOf, mixOf, latchOf, mergedAt, merged, latched};
+ghost use Rattle.access.specs.Graphics.{ecmMasked, textAddress, bitmapAddress, plainAddress, bmmFell, ecmFell, graphicsAddress, idleAddress, accessAddress};
+ghost use Rattle.access.specs.Slots.{pointerAddress, byteAddress, orOpen, pointersAfter, byteTwoAfter, byteOne, byteZero, dataAfter, wordOf, wordsAfter};
+
+// A place of the matrix line whose colour nibble is still to come from the CPU's side of the bus.
+pub enum Pending {
+    Nothing,
+    At(u8),
+}
+
+// The character that a graphics access uses, and the bits that a merge carries on.
+pub struct Latch {
+    pub ch: u16,
+    pub carry: u16,
+}
+
+// ---- the matrix
+
+// The place of the matrix line for a count of VMLI.
+pub fn place(vmli: u8) -> u8
+    ensures { λ r. ⌜ r ≡ placeOf vmli ⌝ }
+{
+    if vmli < 40 { vmli } else { vmli % 40 }
+}
+
+// A character access: the screen code below, the colour nibble above.
+pub fn matrix_word(ram: &[u8], rom: &[u8], colour: &[u8], bank: u8, ptrs: u8, vc: u16) -> u16
+    requires { ⌜ Lent (now ram) (now rom) ⌝ ∗ ⌜ length (now colour) ≡ 1024 ⌝ }
+    ensures { λ r. ⌜ r ≡ matrixWord (now (ram .entry)) (now (rom .entry)) (now (colour .entry)) bank ptrs vc ⌝ }
+{
+    let found = memory::read(ram, rom, bank, laws::wide(ptrs / 16) * 1024 + vc % 1024);
+    let at = (vc % 1024) as usize;
+    laws::wide(colour[at] % 16) * 256 + laws::wide(found.byte)
+}
+
+// The matrix line after a cycle in which a character access may fill a place.
+pub fn fill(
+    matrix: &mut [u16],
+    go: bool,
+    vmli: u8,
+    vc: u16,
+    ptrs: u8,
+    ram: &[u8],
+    rom: &[u8],
+    colour: &[u8],
+    bank: u8,
+)
+    requires { ⌜ length (now matrix) ≡ 40 ⌝ ∗ ⌜ Lent (now ram) (now rom) ⌝ ∗ ⌜ length (now colour) ≡ 1024 ⌝ }
+    ensures { λ r. ⌜ now (matrix .exit) ≡ filled (now (matrix .entry)) go vmli vc ptrs (now (ram .entry)) (now (rom .entry)) (now (colour .entry)) bank ⌝ }
+{
+    if go {
+        let at = place(vmli) as usize;
+        matrix[at] = matrix_word(ram, rom, colour, bank, ptrs, vc);
+    }
+}
+
+// An access that finds the bus still the CPU's makes its place pending, in place of an earlier one.
+pub fn next_pending(missed: bool, vmli: u8, old: Pending) -> Pending
+    ensures { λ r. ⌜ r ≡ pendingAfter missed vmli old ⌝ }
+{
+    if missed {
+        return Pending::At(place(vmli));
+    }
+    old
+}
+
+// What the CPU's byte leaves in a pending place.
+pub fn late_word(byte: u8) -> u16
+    ensures { λ r. ⌜ r ≡ lateWord byte ⌝ }
+{
+    laws::wide(byte % 16) * 256 + 255
+}
+
+// ---- the character latch and the forced merge
+
+// Cycles since a forced bad line, from 0 to 40.
+pub fn since(clock: i64, forced: i64) -> u8
+    requires { ⌜ inRange clock × inRange forced ⌝ }
+    ensures { λ r. ⌜ r ≡ sinceOf clock forced ⌝ }
+{
+    let elapsed = clock - forced - 2;
+    if elapsed < 0 {
+        return 0;
+    }
+    if elapsed < 40 {
+        return elapsed as u8;
+    }
+    40
+}
+
+// The place whose bits leak into a merge.
+pub fn previous_place(f: u8, v: u8) -> u8
+    ensures { λ r. ⌜ r ≡ previousOf f v ⌝ }
+{
+    if f == v {
+        return 0;
+    }
+    if v < f {
+        return place((f - 1) % (f - v));
+    }
+    if f == 0 {
+        return place(v - 1);
+    }
+    place(f - 1)
+}
+
+pub fn carry_of(cycle: u16, old: u16, previous: u16) -> u16
+    ensures { λ r. ⌜ r ≡ carryOf cycle old previous ⌝ }
+{
+    if cycle % 4 == 3 {
+        return 0x08A6 & previous;
+    }
+    0x08A6 & (old | previous)
+}
+
+pub fn mix(carry: u16, current: u16, next: u16) -> u16
+    ensures { λ r. ⌜ r ≡ mixOf carry current next ⌝ }
+{
+    ((carry | (next & 0x013F)) & (current | next)) | (!carry & (current & next))
+}
+
+// The merge, f cycles after the forced bad line: all three entries are read before the two stores.
+pub fn merge_at(matrix: &mut [u16], cycle: u16, f: u8, vmli: u8, old: u16) -> Latch
+    requires { ⌜ length (now matrix) ≡ 40 ⌝ }
+    ensures { λ r. ⌜ r ≡ latchOf (mergedAt (now (matrix .entry)) cycle f vmli old) ⌝ ∗ ⌜ now (matrix .exit) ≡ mergedAt (now (matrix .entry)) cycle f vmli old .matrix ⌝ }
+{
+    let previous = previous_place(f, vmli) as usize;
+    let current = place(vmli) as usize;
+    let next = place(f) as usize;
+    let pd = matrix[previous];
+    let cd = matrix[current];
+    let nd = matrix[next];
+    let carry = carry_of(cycle, old, pd);
+    let mixed = mix(carry, cd, nd);
+    matrix[current] = mixed;
+    matrix[next] = mixed;
+    Latch {
+        ch: mixed,
+        carry: carry,
+    }
+}
+
+// Without a bad line in row 0: a merge within forty cycles of a forced one, the plain entry later.
+pub fn merge(matrix: &mut [u16], cycle: u16, f: u8, vmli: u8, old: u16) -> Latch
+    requires { ⌜ length (now matrix) ≡ 40 ⌝ }
+    ensures { λ r. ⌜ r ≡ latchOf (merged (now (matrix .entry)) cycle f vmli old) ⌝ ∗ ⌜ now (matrix .exit) ≡ merged (now (matrix .entry)) cycle f vmli old .matrix ⌝ }
+{
+    if 40 <= f {
+        let current = place(vmli) as usize;
+        return Latch {
+            ch: matrix[current],
+            carry: old,
+        };
+    }
+    merge_at(matrix, cycle, f, vmli, old)
+}
+
+// The character latch: kept while hidden, cleared by an idle access, else the matrix line's entry or a merge.
+pub fn latched_char(
+    matrix: &mut [u16],
+    moves: bool,
+    hidden: bool,
+    plain: bool,
+    cycle: u16,
+    f: u8,
+    vmli: u8,
+    ch: u16,
+    carry: u16,
+) -> Latch
+    requires { ⌜ length (now matrix) ≡ 40 ⌝ }
+    ensures { λ r. ⌜ r ≡ latchOf (latched (now (matrix .entry)) moves hidden plain cycle f vmli ch carry) ⌝ ∗ ⌜ now (matrix .exit) ≡ latched (now (matrix .entry)) moves hidden plain cycle f vmli ch carry .matrix ⌝ }
+{
+    if hidden {
+        return Latch {
+            ch: ch,
+            carry: carry,
+        };
+    }
+    if !moves {
+        return Latch {
+            ch: 0,
+            carry: carry,
+        };
+    }
+    if plain {
+        let at = place(vmli) as usize;
+        return Latch {
+            ch: matrix[at],
+            carry: carry,
+        };
+    }
+    merge(matrix, cycle, f, vmli, carry)
+}
+
+// ---- graphics addresses
+
+// ECM holds address bits 9 and 10 at 0.
+pub fn ecm_masked(ecm: bool, address: u16) -> u16
+    ensures { λ r. ⌜ r ≡ ecmMasked ecm address ⌝ }
+{
+    if ecm {
+        return address / 2048 * 2048 + address % 512;
+    }
+    address
+}
+
+pub fn text_address(ptrs: u8, ch: u16, rc: u8) -> u16
+    ensures { λ r. ⌜ r ≡ textAddress ptrs ch rc ⌝ }
+{
+    laws::wide(ptrs / 2 % 8) * 2048 + ch % 256 * 8 + laws::wide(rc)
+}
+
+pub fn bitmap_address(ptrs: u8, vc: u16, rc: u8) -> u16
+    ensures { λ r. ⌜ r ≡ bitmapAddress ptrs vc rc ⌝ }
+{
+    laws::wide(ptrs / 8 % 2) * 8192 + vc % 1024 * 8 + laws::wide(rc)
+}
+
+pub fn plain_address(mode: u8, ptrs: u8, ch: u16, vc: u16, rc: u8) -> u16
+    ensures { λ r. ⌜ r ≡ plainAddress mode ptrs ch vc rc ⌝ }
+{
+    let ecm = mode / 4 % 2 == 1;
+    if mode / 2 % 2 == 1 {
+        return ecm_masked(ecm, bitmap_address(ptrs, vc, rc));
+    }
+    ecm_masked(ecm, text_address(ptrs, ch, rc))
+}
+
+// The first access after BMM fell: the bitmap counter is still on the address.
+pub fn bmm_fell(fell: bool, ptrs: u8, vc: u16, rc: u8, bank: u8, address: u16) -> u16
+    ensures { λ r. ⌜ r ≡ bmmFell fell ptrs vc rc bank address ⌝ }
+{
+    if !fell {
+        return address;
+    }
+    let bitmap = bitmap_address(ptrs, vc, rc);
+    if memory::in_rom(bank, address) {
+        return address / 256 * 256 + bitmap % 256;
+    }
+    bitmap
+}
+
+// The first access after ECM fell: its mask is still on the address.
+pub fn ecm_fell(fell: bool, bitmap: bool, bank: u8, address: u16) -> u16
+    ensures { λ r. ⌜ r ≡ ecmFell fell bitmap bank address ⌝ }
+{
+    let masked = fell & (bitmap | memory::in_rom(bank, address));
+    ecm_masked(masked, address)
+}
+
+pub fn graphics_address(mode: u8, old: u8, ptrs: u8, ch: u16, vc: u16, rc: u8, bank: u8) -> u16
+    ensures { λ r. ⌜ r ≡ graphicsAddress mode old ptrs ch vc rc bank ⌝ }
+{
+    let bmm = mode / 2 % 2 == 1;
+    let was_bmm = old / 2 % 2 == 1;
+    let ecm = mode / 4 % 2 == 1;
+    let was_ecm = old / 4 % 2 == 1;
+    let mcm = mode % 2 == 1;
+    let plain = plain_address(mode, ptrs, ch, vc, rc);
+    let after_bmm = bmm_fell(was_bmm & !bmm, ptrs, vc, rc, bank, plain);
+    ecm_fell(was_ecm & !ecm, bmm & (!was_bmm | mcm), bank, after_bmm)
+}
+
+pub fn idle_address(old: u8, forced: bool) -> u16
+    ensures { λ r. ⌜ r ≡ idleAddress old forced ⌝ }
+{
+    if forced {
+        return 0x38FF;
+    }
+    ecm_masked(old / 4 % 2 == 1, 0x3FFF)
+}
+
+// The address of a graphics access, in display or in idle state.
+pub fn access_address(
+    moves: bool,
+    forced: bool,
+    mode: u8,
+    old: u8,
+    ptrs: u8,
+    ch: u16,
+    vc: u16,
+    rc: u8,
+    bank: u8,
+) -> u16
+    ensures { λ r. ⌜ r ≡ accessAddress moves forced mode old ptrs ch vc rc bank ⌝ }
+{
+    if moves {
+        return graphics_address(mode, old, ptrs, ch, vc, rc, bank);
+    }
+    idle_address(old, forced)
+}
+
+// ---- the sprites' slots
+
+pub fn byte_address(on: bool, pointer: u8, mc: u8) -> u16
+    ensures { λ r. ⌜ r ≡ byteAddress on pointer mc ⌝ }
+{
+    if on {
+        return laws::wide(pointer) * 64 + laws::wide(mc % 64);
+    }
+    0x3FFF
+}
+
+// A byte that was read, or the open bus.
+pub fn or_open(seen: bool, byte: u8) -> u8
+    ensures { λ r. ⌜ r ≡ orOpen seen byte ⌝ }
+{
+    if seen { byte } else { 255 }
+}
+
+// A pointer slot: the pointer, then byte 2. `first` is sprite 0's, which needs the bus.
+pub fn pointer_slot(
+    pointers: &mut [u8],
+    bytes: &mut [u8],
+    k: usize,
+    first: bool,
+    on: bool,
+    mc: u8,
+    low: bool,
+    ptrs: u8,
+    ram: &[u8],
+    rom: &[u8],
+    bank: u8,
+)
+    requires { ⌜ (length (now pointers) ≡ 8) × (length (now bytes) ≡ 24) ⌝ ∗ ⌜ k < 8 ⌝ ∗ ⌜ Lent (now ram) (now rom) ⌝ }
+    ensures { λ r. ⌜ now (pointers .exit) ≡ pointersAfter (now (pointers .entry)) k ptrs (now (ram .entry)) (now (rom .entry)) bank ⌝ ∗ ⌜ now (bytes .exit) ≡ byteTwoAfter (now (bytes .entry)) k first on mc low ptrs (now (ram .entry)) (now (rom .entry)) bank ⌝ }
+{
+    let found = memory::read(
+        ram,
+        rom,
+        bank,
+        laws::wide(ptrs / 16) * 1024 + 1016 + k as u16,
+    );
+    pointers[k] = found.byte;
+    let data = memory::read(ram, rom, bank, byte_address(on, found.byte, mc));
+    bytes[k * 3 + 2] = or_open((on & !first) | low, data.byte);
+}
+
+pub fn word_of(two: u8, one: u8, zero: u8) -> u32
+    ensures { λ r. ⌜ r ≡ wordOf two one zero ⌝ }
+{
+    (two as u32) * 65536 + (one as u32) * 256 + (zero as u32)
+}
+
+// A data slot: byte 1, byte 0, and the word put together. The mask and the sprite's own flag may disagree.
+pub fn data_slot(
+    pointers: &[u8],
+    bytes: &mut [u8],
+    words: &mut [u32],
+    k: usize,
+    mask: bool,
+    flag: bool,
+    mc: u8,
+    low: bool,
+    ram: &[u8],
+    rom: &[u8],
+    bank: u8,
+)
+    requires { ⌜ (length (now pointers) ≡ 8) × (length (now bytes) ≡ 24) × (length (now words) ≡ 8) ⌝ ∗ ⌜ k < 8 ⌝ ∗ ⌜ Lent (now ram) (now rom) ⌝ }
+    ensures { λ r. ⌜ now (bytes .exit) ≡ dataAfter (now (pointers .entry)) (now (bytes .entry)) k mask flag mc low (now (ram .entry)) (now (rom .entry)) bank ⌝ ∗ ⌜ now (words .exit) ≡ wordsAfter (now (pointers .entry)) (now (bytes .entry)) (now (words .entry)) k mask flag mc low (now (ram .entry)) (now (rom .entry)) bank ⌝ }
+{
+    let pointer = pointers[k];
+    let on = mask & flag;
+    let first = memory::read(ram, rom, bank, byte_address(on, pointer, mc));
+    let second = memory::read(ram, rom, bank, byte_address(on, pointer, mc % 64 + 1));
+    let one = or_open(!mask | flag | low, first.byte);
+    let zero = or_open(on | low, second.byte);
+    let at = k * 3;
+    let two = bytes[at + 2];
+    bytes[at] = zero;
+    bytes[at + 1] = one;
+    words[k] = word_of(two, one, zero);
+}
