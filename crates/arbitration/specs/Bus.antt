@@ -7,6 +7,7 @@ use lib.IntN.{ℤ, pos, negsuc, _+ℤ_}
 use Rattle.schedule.specs.Diagram.{happens, firstPhase, secondPhase}
 use Rattle.schedule.specs.Requests.{maskAt}
 use Rattle.arbitration.specs.declared.Bus.{Bus}
+use Rattle.arbitration.specs.Set.{clock≔}
 
 -- 01, power-up: clock 0, AEC counter 3
 unfoldable pub fresh : Bus
@@ -15,6 +16,9 @@ fresh = record { clock = pos 0; fall = pos 0; rise = pos 0; aec = pos 3; balow =
 -- 01, tick 1: clock +2
 unfoldable pub clockOn : ℤ → ℤ
 clockOn clock = clock +ℤ pos 2
+
+unfoldable pub clocked : Bus → Bus
+clocked b = clock≔ (clockOn (b .clock)) b
 
 -- Bauer 3.8.1: a sprite with DMA on whose slots are near
 unfoldable pub spriteAsks : ℕ → ℕ → Bool

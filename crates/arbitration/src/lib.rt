@@ -3,7 +3,7 @@ ghost use mathlib.Core.Path.{_≡_};
 ghost use mathlib.Core.Bool.{Bool, cond};
 ghost use lib.IntN.{ℤ};
 ghost use Rattle.laws.specs.Clock.{inRange};
-ghost use Rattle.arbitration.specs.Bus.{fresh, clockOn, spriteAsks, requested, aecAfter, low, arbitrated, phi1Mask, phi1High};
+ghost use Rattle.arbitration.specs.Bus.{fresh, clockOn, clocked, spriteAsks, requested, aecAfter, low, arbitrated, phi1Mask, phi1High};
 
 pub struct Bus {
     pub clock: i64,
@@ -87,6 +87,22 @@ impl Bus {
             aec: 3,
             balow: false,
             aeclow: false,
+        }
+    }
+
+    // The same bus, one cycle later.
+    pub fn clocked(self) -> Self
+        requires { ⌜ inRange (self .clock) ⌝ }
+        ensures { λ r. ⌜ r ≡ clocked self ⌝ }
+    {
+        let clock = clock_on(self.clock);
+        Bus {
+            clock: clock,
+            fall: self.fall,
+            rise: self.rise,
+            aec: self.aec,
+            balow: self.balow,
+            aeclow: self.aeclow,
         }
     }
 
