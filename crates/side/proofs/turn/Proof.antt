@@ -1,0 +1,148 @@
+use Rattle.schedule.proofs.Laws.{slot-small}
+use Rattle.side.specs.Turn.{controls}
+use Rattle.side.proofs.Glue.{turn-glue}
+use borrow.Author.Needs.{needs}
+use Rattle.side.proofs.turn.Statement.{statement}
+use Rattle.side.proofs.turn.Tie as tie
+
+clocked-requires : tie.Need-clocked-requires
+clocked-requires c κs = search needs
+
+next-cycle-requires : tie.Need-next-cycle-requires
+next-cycle-requires c κs = search needs
+
+line-begins-requires : tie.Need-line-begins-requires
+line-begins-requires c κs = search needs
+
+at-last-line-requires : tie.Need-at-last-line-requires
+at-last-line-requires c κs = search needs
+
+raster-begun-requires : tie.Need-raster-begun-requires
+raster-begun-requires c κs = search needs
+
+begin-requires : tie.Need-begin-requires
+begin-requires c κs = search needs
+
+bad-line-requires : tie.Need-bad-line-requires
+bad-line-requires c κs = search needs
+
+frame-ends-requires : tie.Need-frame-ends-requires
+frame-ends-requires c κs = search needs
+
+pick16-requires : tie.Need-pick16-requires
+pick16-requires c κs = search needs
+
+end-requires : tie.Need-end-requires
+end-requires c κs = search needs
+
+raise-requires : tie.Need-raise-requires
+raise-requires c κs = search needs
+
+border-turn-requires : tie.Need-border-turn-requires
+border-turn-requires c κs = search needs
+
+sprites-turn-requires : tie.Need-sprites-turn-requires
+sprites-turn-requires c κs = search needs
+
+ba-output-requires : tie.Need-ba-output-requires
+ba-output-requires c κs = search needs
+
+request-requires : tie.Need-request-requires
+request-requires c κs = search needs
+
+arbitrate-requires : tie.Need-arbitrate-requires
+arbitrate-requires c κs = search needs
+
+slot-sprite-requires : tie.Need-slot-sprite-requires
+slot-sprite-requires c κs = search needs
+
+at-requires : tie.Need-at-requires
+at-requires c κs = rw (c .slot-sprite .ensures) (slot-small _)
+
+has-bit-requires : tie.Need-has-bit-requires
+has-bit-requires c κs = rw (c .before .slot-sprite .ensures) (slot-small _)
+
+sprites-slot-requires : tie.Need-sprites-slot-requires
+sprites-slot-requires c κs = rw (c .before .before .slot-sprite .ensures) (slot-small _)
+
+slot-after-bus-requires : tie.Need-slot-after-bus-requires
+slot-after-bus-requires c κs = search needs
+
+pick-bool-requires : tie.Need-pick-bool-requires
+pick-bool-requires c κs = search needs
+
+pointer-time-requires : tie.Need-pointer-time-requires
+pointer-time-requires c κs = search needs
+
+data-time-requires : tie.Need-data-time-requires
+data-time-requires c κs = search needs
+
+rows-turn-requires : tie.Need-rows-turn-requires
+rows-turn-requires c κs = search needs
+
+next-pending-requires : tie.Need-next-pending-requires
+next-pending-requires c κs = search needs
+
+returns : tie.Need-returns
+returns c =
+    let start = c .before .before .before .before .before .before .before .before .before .before .before .before .before .before .before .before .before .before .before .before .before .before .before .before .before .before .before .before .before .before .before .before .before .before .before .before .before .before .before .before .before .before .before .args in
+    let g = controls (start .den) (start .rsel) (start .yscroll) (start .csel) (start .compare) (start .my) (start .enable) (start .yexp) in
+    turn-glue g (start .side)
+    (c .before .before .before .before .before .before .before .before .before .before .before .before .before .before .before .before .before .before .before .before .before .before .before .before .before .before .before .before .before .before .before .before .before .before .before .clocked .ensures)
+    (c .before .before .before .before .before .before .before .before .before .before .before .before .before .before .before .before .before .before .before .before .before .before .before .before .before .before .before .before .before .before .before .before .before .before .next-cycle .ensures)
+    (c .before .before .before .before .before .before .before .before .before .before .before .before .before .before .before .before .before .before .before .before .before .before .before .before .before .before .before .before .before .before .before .before .before .line-begins .ensures)
+    (c .before .before .before .before .before .before .before .before .before .before .before .before .before .before .before .before .before .before .before .before .before .before .before .before .before .before .before .before .before .before .before .before .at-last-line .ensures)
+    (c .before .before .before .before .before .before .before .before .before .before .before .before .before .before .before .before .before .before .before .before .before .before .before .before .before .before .before .before .before .before .before .raster-begun .ensures)
+    (c .before .before .before .before .before .before .before .before .before .before .before .before .before .before .before .before .before .before .before .before .before .before .before .before .before .before .before .before .before .before .begin .ensures)
+    (c .before .before .before .before .before .before .before .before .before .before .before .before .before .before .before .before .before .before .before .before .before .before .before .before .before .before .before .before .before .bad-line .ensures)
+    (c .before .before .before .before .before .before .before .before .before .before .before .before .before .before .before .before .before .before .before .before .before .before .before .before .before .before .before .before .frame-ends .ensures)
+    (c .before .before .before .before .before .before .before .before .before .before .before .before .before .before .before .before .before .before .before .before .before .before .before .before .before .before .pick16 .ensures)
+    (c .before .before .before .before .before .before .before .before .before .before .before .before .before .before .before .before .before .before .before .before .before .before .before .before .before .end .ensures)
+    (c .before .before .before .before .before .before .before .before .before .before .before .before .before .before .before .before .before .before .before .before .before .before .raise .ensures)
+    (c .before .before .before .before .before .before .before .before .before .before .before .before .before .before .before .before .before .before .before .before .before .border-turn .ensures)
+    (c .before .before .before .before .before .before .before .before .before .before .before .before .before .before .before .before .before .before .before .before .sprites-turn .ensures)
+    (c .before .before .before .before .before .before .before .before .before .before .before .before .before .before .before .before .before .before .before .ba-output .ensures)
+    (c .before .before .before .before .before .before .before .before .before .before .before .before .before .before .before .before .before .before .request .ensures)
+    (c .before .before .before .before .before .before .before .before .before .before .before .before .before .before .before .before .before .arbitrate .ensures)
+    (c .before .before .before .before .before .before .before .before .before .before .before .before .before .before .before .before .slot-sprite .ensures)
+    (c .before .before .before .before .before .before .before .before .before .before .before .before .before .before .before .at .ensures)
+    (c .before .before .before .before .before .before .before .before .before .before .before .before .before .before .has-bit .ensures)
+    (c .before .before .before .before .before .before .before .before .before .before .before .before .before .sprites-slot .ensures)
+    (c .before .before .before .before .before .before .before .before .before .before .before .before .slot-after-bus .ensures)
+    (c .before .before .before .before .before .before .before .before .before .before .before .pick-bool .ensures)
+    (c .before .before .before .before .before .before .before .before .before .before .pointer-time .ensures)
+    (c .before .before .before .before .before .before .before .before .before .data-time .ensures)
+    (c .before .before .before .before .before .before .before .rows-turn .ensures)
+    (c .before .before .before .next-pending .ensures)
+
+pub turn-spec : {M : Type 1} → statement M
+turn-spec =
+    tie.close
+    (tie.spec
+    clocked-requires
+    next-cycle-requires
+    line-begins-requires
+    at-last-line-requires
+    raster-begun-requires
+    begin-requires
+    bad-line-requires
+    frame-ends-requires
+    pick16-requires
+    end-requires
+    raise-requires
+    border-turn-requires
+    sprites-turn-requires
+    ba-output-requires
+    request-requires
+    arbitrate-requires
+    slot-sprite-requires
+    at-requires
+    has-bit-requires
+    sprites-slot-requires
+    slot-after-bus-requires
+    pick-bool-requires
+    pointer-time-requires
+    data-time-requires
+    rows-turn-requires
+    next-pending-requires
+    returns)

@@ -1,0 +1,4 @@
+pub mod Frame
+pub mod Rows
+pub mod Phases
+pub mod Turn

@@ -1,0 +1,115 @@
+-- One tick of the timing side, in the order of 01's list. No picture value is in sight.
+use Prim.Native.Nat.{ℕ}
+use mathlib.Core.Bool.{Bool, true, false, not, _&&_, _||_}
+use mathlib.Core.List.{List}
+use lib.Dec.{eqb}
+use Rattle.laws.specs.Bits.{hasBit}
+use Rattle.laws.specs.Pick.{pick}
+use Rattle.schedule.specs.Diagram.{happens, lineBegins, frameEnds, pointerTime, dataTime, slotSprite, slotAfterBus}
+use Rattle.registers.specs.Irq.{quiet}
+use Rattle.timing.specs.Beam.{nextCycle, atLastLine, badLine, baOutput}
+use Rattle.timing.specs.Beam as Beams
+use Rattle.border.specs.Border as Borders
+use Rattle.sprites.specs.Sprites.{allFresh, spriteAt}
+use Rattle.arbitration.specs.Bus.{clocked, requested, arbitrated}
+use Rattle.arbitration.specs.Bus as Buses
+use Rattle.access.specs.Matrix.{pendingAfter}
+use Rattle.access.specs.declared.Pending.the-variants.{Nothing}
+use Rattle.side.specs.declared.Side.{Side}
+use Rattle.side.specs.declared.Turned.{Turned}
+use Rattle.side.specs.Frame.{freshFrame, rasterBegun, frameBegun, frameEnded, raised}
+use Rattle.side.specs.Rows.{freshRows, rowed}
+use Rattle.side.specs.Phases.{bordered, phased, slotMoved}
+
+-- 01, Timing side and picture side: the timing registers, as a tick finds them
+pub record Controls : Type 0 where
+  pub den : Bool
+  pub rsel : Bool
+  pub yscroll : ℕ
+  pub csel : Bool
+  pub compare : ℕ
+  pub my : List ℕ
+  pub enable : ℕ
+  pub yexp : ℕ
+
+abbrev pub controls : Bool → Bool → ℕ → Bool → ℕ → List ℕ → ℕ → ℕ → Controls
+controls den rsel yscroll csel compare my enable yexp =
+    record { den = den; rsel = rsel; yscroll = yscroll; csel = csel; compare = compare; my = my; enable = enable; yexp = yexp }
+
+-- 01, power-up: the parts' own values
+unfoldable pub freshSide : Side
+freshSide =
+    record {
+      irq = quiet;
+      beam = Beams.fresh;
+      frame = freshFrame;
+      border = Borders.fresh;
+      sprites = allFresh;
+      bus = Buses.fresh;
+      rows = freshRows;
+      pending = Nothing;
+      changed = false;
+    }
+
+unfoldable pub turned : Controls → Side → Turned
+turned g s =
+    -- tick 1: cycle +1
+    let cycle = nextCycle (s .beam .cycle) in
+    -- tick 3: a line begins
+    let begins = happens lineBegins cycle in
+    let line = rasterBegun begins (s .beam .raster) in
+    let begun = frameBegun (s .frame) begins (begins && atLastLine (s .beam .raster)) line (g .den) (g .compare) in
+    -- tick 2 and 3: the live bad line
+    let bad = badLine line (g .yscroll) (begun .latch) in
+    let rising = bad && not (s .beam .bad) in
+    -- tick 4: a frame ends
+    let wraps = happens frameEnds cycle && begun .ending in
+    let raster = pick wraps 0 line in
+    -- tick 3 and 4: once while matched; at the frame's end without a look at the match
+    let irq = raised (s .irq) ((begun .matched && not (s .frame .matched)) || (wraps && eqb (g .compare) 0)) in
+    -- tick 3, 7, 8 and 9: the border's compares, the sprites' phases
+    let border = bordered cycle raster (g .den) (g .csel) (s .border) in
+    let sprites = phased cycle raster (g .my) (g .enable) (g .yexp) (s .sprites) in
+    -- tick 8: arbitration, at the clock of tick 1
+    let ba = baOutput bad cycle in
+    let bus = arbitrated (clocked (s .bus)) (requested ba (sprites .dma) cycle) in
+    -- tick 5: the slot of this cycle
+    let k = slotSprite cycle in
+    -- tick 8: the row counters
+    let now = rowed cycle bad rising wraps (s .rows) in
+    record {
+      side = record {
+        irq = irq;
+        beam = record { cycle = cycle; raster = raster; den = g .den; rsel = g .rsel; yscroll = g .yscroll; bad = bad; rising = rising; ba = ba };
+        frame = frameEnded begun wraps;
+        border = border;
+        sprites = slotMoved cycle k sprites;
+        bus = bus;
+        rows = now .rows;
+        pending = pendingAfter (now .fetches && not (bus .aeclow)) (now .rows .vmli) (s .pending);
+        -- tick 10: IRQ-changed copies the line
+        changed = irq .line;
+      };
+      orders = record {
+        cycle = cycle;
+        graphics = now .graphics;
+        moves = now .moves;
+        waiting = now .waiting;
+        plain = bad || not (eqb (now .rc) 0);
+        hidden = border .disabled;
+        vc = now .vc;
+        vmli = now .vmli;
+        rc = now .rc;
+        fills = now .fetches && bus .aeclow;
+        place = now .rows .vmli;
+        column = now .rows .vc;
+        sprite = k;
+        pointing = pointerTime cycle;
+        fetching = dataTime cycle;
+        mask = hasBit (sprites .dma) k;
+        flag = spriteAt sprites k .dma;
+        mc = spriteAt sprites k .mc;
+        -- tick 5 and 8: most slots come before their cycle's arbitration
+        low = pick (slotAfterBus cycle) (bus .aeclow) (s .bus .aeclow);
+      };
+    }

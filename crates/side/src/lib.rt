@@ -1,0 +1,519 @@
+// The timing side of the chip, and its step: a tick is handed the timing registers and nothing of the picture.
+ghost use mathlib.Core.Path.{_≡_};
+ghost use mathlib.Core.Bool.{Bool};
+ghost use Prim.Native.Nat.{_<_};
+ghost use Rattle.laws.specs.Clock.{inRange};
+ghost use Rattle.side.specs.Frame.{freshFrame, frameBegun, frameEnded, rasterBegun, raised};
+ghost use Rattle.side.specs.Rows.{freshRows, vcAfter, vmliAfter, rcAfter, accessAfter, displayAfter, rowed};
+ghost use Rattle.side.specs.Phases.{beginAt, left40At, left38At, right38At, right40At, rememberAt, endAt, bordered, stepAt, firstAt, secondAt, loadAt, phased, slotMoved};
+ghost use Rattle.side.specs.Turn.{controls, freshSide, turned};
+use access::Pending;
+use arbitration::Bus;
+use border::Border;
+use registers::Irq;
+use sprites::Sprites;
+use timing::Beam;
+
+// What waits from line to line: the frame's end, the raster match and the DEN latch.
+pub struct Frame {
+    pub ending: bool,
+    pub matched: bool,
+    pub latch: bool,
+}
+
+// The row counters and the states of the display logic.
+pub struct Rows {
+    pub vc: u16,
+    pub vcbase: u16,
+    pub rc: u8,
+    pub vmli: u8,
+    // true is Display, false Idle
+    pub display: bool,
+    // true is pending, false Stable
+    pub transition: bool,
+    pub access: bool,
+}
+
+pub struct Side {
+    pub irq: Irq,
+    pub beam: Beam,
+    pub frame: Frame,
+    pub border: Border,
+    pub sprites: Sprites,
+    pub bus: Bus,
+    pub rows: Rows,
+    pub pending: Pending,
+    // the interrupt line as the last tick left it
+    pub changed: bool,
+}
+
+// What the display logic does in a cycle, and the numbers that its accesses find.
+pub struct Rowed {
+    pub rows: Rows,
+    pub vc: u16,
+    pub vmli: u8,
+    pub rc: u8,
+    pub graphics: bool,
+    pub moves: bool,
+    pub waiting: bool,
+    pub fetches: bool,
+}
+
+// What the timing side tells the picture to do in a cycle: numbers and no picture value.
+pub struct Orders {
+    pub cycle: u16,
+    pub graphics: bool,
+    pub moves: bool,
+    pub waiting: bool,
+    pub plain: bool,
+    pub hidden: bool,
+    pub vc: u16,
+    pub vmli: u8,
+    pub rc: u8,
+    pub fills: bool,
+    pub place: u8,
+    pub column: u16,
+    pub sprite: usize,
+    pub pointing: bool,
+    pub fetching: bool,
+    pub mask: bool,
+    pub flag: bool,
+    pub mc: u8,
+    pub low: bool,
+}
+
+pub struct Turned {
+    pub side: Side,
+    pub orders: Orders,
+}
+
+fn raster_begun(begins: bool, raster: u16) -> u16
+    ensures { λ r. ⌜ r ≡ rasterBegun begins raster ⌝ }
+{
+    if begins {
+        return timing::next_line(raster);
+    }
+    raster
+}
+
+impl Frame {
+    pub fn new() -> Self
+        ensures { λ r. ⌜ r ≡ freshFrame ⌝ }
+    {
+        Self {
+            ending: false,
+            matched: false,
+            latch: false,
+        }
+    }
+
+    // The first cycle of a line: the last line waits, any other is compared and may latch DEN.
+    fn begin(self, begins: bool, last: bool, raster: u16, den: bool, compare: u16) -> Self
+        ensures { λ r. ⌜ r ≡ frameBegun self begins last raster den compare ⌝ }
+    {
+        if begins {
+            return Frame {
+                ending: self.ending | last,
+                matched: !last & (raster == compare),
+                latch: laws::pick_bool(raster == 0x30, den, self.latch),
+            };
+        }
+        self
+    }
+
+    // The frame's end, in the second cycle.
+    fn end(self, wraps: bool) -> Self
+        ensures { λ r. ⌜ r ≡ frameEnded self wraps ⌝ }
+    {
+        if wraps {
+            return Frame {
+                ending: false,
+                matched: self.matched,
+                latch: false,
+            };
+        }
+        self
+    }
+}
+
+fn raise(irq: Irq, raises: bool) -> Irq
+    ensures { λ r. ⌜ r ≡ raised irq raises ⌝ }
+{
+    if raises {
+        return irq.trigger(1);
+    }
+    irq
+}
+
+// ---- the border's compares, each in its cycle
+
+fn border_begin(b: Border, cycle: u16, raster: u16, den: bool) -> Border
+    ensures { λ r. ⌜ r ≡ beginAt cycle raster den b ⌝ }
+{
+    if schedule::line_begins(cycle) {
+        return b.begin_line(raster, den);
+    }
+    b
+}
+
+fn border_left40(b: Border, cycle: u16, raster: u16, den: bool, csel: bool) -> Border
+    ensures { λ r. ⌜ r ≡ left40At cycle raster den csel b ⌝ }
+{
+    if schedule::left40(cycle) {
+        return b.left40(csel, raster, den);
+    }
+    b
+}
+
+fn border_left38(b: Border, cycle: u16, raster: u16, den: bool, csel: bool) -> Border
+    ensures { λ r. ⌜ r ≡ left38At cycle raster den csel b ⌝ }
+{
+    if schedule::left38(cycle) {
+        return b.left38(csel, raster, den);
+    }
+    b
+}
+
+fn border_right38(b: Border, cycle: u16, csel: bool) -> Border
+    ensures { λ r. ⌜ r ≡ right38At cycle csel b ⌝ }
+{
+    if schedule::right38(cycle) {
+        return b.right38(csel);
+    }
+    b
+}
+
+fn border_right40(b: Border, cycle: u16, csel: bool) -> Border
+    ensures { λ r. ⌜ r ≡ right40At cycle csel b ⌝ }
+{
+    if schedule::right40(cycle) {
+        return b.right40(csel);
+    }
+    b
+}
+
+fn border_remember(b: Border, cycle: u16) -> Border
+    ensures { λ r. ⌜ r ≡ rememberAt cycle b ⌝ }
+{
+    if schedule::main_remembered(cycle) {
+        return b.remember();
+    }
+    b
+}
+
+fn border_end(b: Border, cycle: u16, raster: u16, den: bool) -> Border
+    ensures { λ r. ⌜ r ≡ endAt cycle raster den b ⌝ }
+{
+    if schedule::line_ends(cycle) {
+        return b.line_end(raster, den);
+    }
+    b
+}
+
+fn border_turn(b: Border, cycle: u16, raster: u16, den: bool, csel: bool) -> Border
+    ensures { λ r. ⌜ r ≡ bordered cycle raster den csel b ⌝ }
+{
+    let begun = border_begin(b, cycle, raster, den);
+    let wide = border_left40(begun, cycle, raster, den, csel);
+    let narrow = border_left38(wide, cycle, raster, den, csel);
+    let early = border_right38(narrow, cycle, csel);
+    let late = border_right40(early, cycle, csel);
+    let kept = border_remember(late, cycle);
+    border_end(kept, cycle, raster, den)
+}
+
+// ---- the sprites' phases, each in its cycle
+
+fn sprites_step(s: Sprites, cycle: u16) -> Sprites
+    ensures { λ r. ⌜ r ≡ stepAt cycle s ⌝ }
+{
+    if schedule::mcbase_step(cycle) {
+        return s.mcbase_step();
+    }
+    s
+}
+
+fn sprites_first(s: Sprites, cycle: u16, raster: u16, my: [u8; 8], enable: u8, yexp: u8) -> Sprites
+    ensures { λ r. ⌜ r ≡ firstAt cycle raster my enable yexp s ⌝ }
+{
+    if schedule::first_phase(cycle) {
+        return s.first_phase(raster, my, enable, yexp);
+    }
+    s
+}
+
+fn sprites_second(s: Sprites, cycle: u16, raster: u16, my: [u8; 8], enable: u8, yexp: u8) -> Sprites
+    ensures { λ r. ⌜ r ≡ secondAt cycle raster my enable yexp s ⌝ }
+{
+    if schedule::second_phase(cycle) {
+        return s.second_phase(raster, my, enable, yexp);
+    }
+    s
+}
+
+fn sprites_load(s: Sprites, cycle: u16, raster: u16, my: [u8; 8], enable: u8) -> Sprites
+    ensures { λ r. ⌜ r ≡ loadAt cycle raster my enable s ⌝ }
+{
+    if schedule::mc_load(cycle) {
+        return s.load_mc(raster, my, enable);
+    }
+    s
+}
+
+fn sprites_turn(s: Sprites, cycle: u16, raster: u16, my: [u8; 8], enable: u8, yexp: u8) -> Sprites
+    ensures { λ r. ⌜ r ≡ phased cycle raster my enable yexp s ⌝ }
+{
+    let stepped = sprites_step(s, cycle);
+    let first = sprites_first(stepped, cycle, raster, my, enable, yexp);
+    let second = sprites_second(first, cycle, raster, my, enable, yexp);
+    sprites_load(second, cycle, raster, my, enable)
+}
+
+// The slot of this cycle moves its sprite's MC on: one byte beside the pointer, two in the data slot.
+fn sprites_slot(s: Sprites, cycle: u16, k: usize) -> Sprites
+    requires { ⌜ k < 8 ⌝ }
+    ensures { λ r. ⌜ r ≡ slotMoved cycle k s ⌝ }
+{
+    if schedule::pointer_time(cycle) {
+        return s.fetch(k, 1);
+    }
+    if schedule::data_time(cycle) {
+        return s.fetch(k, 2);
+    }
+    s
+}
+
+// ---- the row counters
+
+fn vc_after(moves: bool, vc: u16) -> u16
+    ensures { λ r. ⌜ r ≡ vcAfter moves vc ⌝ }
+{
+    if moves {
+        return (vc % 1024 + 1) % 1024;
+    }
+    vc
+}
+
+fn vmli_after(moves: bool, vmli: u8) -> u8
+    ensures { λ r. ⌜ r ≡ vmliAfter moves vmli ⌝ }
+{
+    if moves {
+        return std::num::wrapping_add_u8(vmli, 1);
+    }
+    vmli
+}
+
+fn rc_after(goes: bool, rc: u8) -> u8
+    ensures { λ r. ⌜ r ≡ rcAfter goes rc ⌝ }
+{
+    if goes {
+        return (rc % 8 + 1) % 8;
+    }
+    rc
+}
+
+// Character accesses are chosen once a line, and end with it.
+fn access_after(chosen: bool, ends: bool, bad: bool, access: bool) -> bool
+    ensures { λ r. ⌜ r ≡ accessAfter chosen ends bad access ⌝ }
+{
+    if chosen {
+        return bad;
+    }
+    access & !ends
+}
+
+fn display_after(ends: bool, rc: u8, bad: bool, display: bool) -> bool
+    ensures { λ r. ⌜ r ≡ displayAfter ends rc bad display ⌝ }
+{
+    if ends {
+        return (display & (rc != 7)) | bad;
+    }
+    display
+}
+
+impl Rows {
+    pub fn new() -> Self
+        ensures { λ r. ⌜ r ≡ freshRows ⌝ }
+    {
+        Self {
+            vc: 0,
+            vcbase: 0,
+            rc: 0,
+            vmli: 0,
+            display: false,
+            transition: false,
+            access: false,
+        }
+    }
+}
+
+fn rows_turn(rows: Rows, cycle: u16, bad: bool, rising: bool, wraps: bool) -> Rowed
+    ensures { λ r. ⌜ r ≡ rowed cycle bad rising wraps rows ⌝ }
+{
+    let loads = schedule::vc_load(cycle);
+    let vc = laws::pick16(loads, rows.vcbase, rows.vc);
+    let vmli = laws::pick8(loads, 0, rows.vmli);
+    let rc = laws::pick8(loads & bad, 0, rows.rc);
+    let chosen = schedule::access_chosen(cycle);
+    let over = schedule::access_ends(cycle);
+    let access = access_after(chosen, over, bad, rows.access);
+    let graphics = schedule::graphics_access(cycle);
+    let display = rows.display | rising;
+    let waiting = rows.transition & !chosen;
+    let moves = graphics & display & !waiting;
+    let fetches = schedule::character_access(cycle) & access;
+    let ends = schedule::row_ends(cycle);
+    let shows = display_after(ends, rc, bad, display);
+    let based = laws::pick16(wraps, 0, rows.vcbase);
+    let base = laws::pick16(ends & (rc == 7), vc, based);
+    let next_vc = vc_after(moves, vc);
+    let next_vmli = vmli_after(moves, vmli);
+    let next_rc = rc_after(ends & shows, rc);
+    let next = Rows {
+        vc: next_vc,
+        vcbase: base,
+        rc: next_rc,
+        vmli: next_vmli,
+        display: shows,
+        transition: waiting & !graphics,
+        access: access,
+    };
+    Rowed {
+        rows: next,
+        vc: vc,
+        vmli: vmli,
+        rc: rc,
+        graphics: graphics,
+        moves: moves,
+        waiting: waiting,
+        fetches: fetches,
+    }
+}
+
+// ---- the whole step
+
+impl Side {
+    pub fn new() -> Self
+        ensures { λ r. ⌜ r ≡ freshSide ⌝ }
+    {
+        let irq = Irq::new();
+        let beam = Beam::new();
+        let frame = Frame::new();
+        let border = Border::new();
+        let sprites = Sprites::new();
+        let bus = Bus::new();
+        let rows = Rows::new();
+        Side {
+            irq: irq,
+            beam: beam,
+            frame: frame,
+            border: border,
+            sprites: sprites,
+            bus: bus,
+            rows: rows,
+            pending: Pending::Nothing,
+            changed: false,
+        }
+    }
+}
+
+pub fn turn(
+    side: Side,
+    den: bool,
+    rsel: bool,
+    yscroll: u8,
+    csel: bool,
+    compare: u16,
+    my: [u8; 8],
+    enable: u8,
+    yexp: u8,
+) -> Turned
+    requires { ⌜ inRange (side .bus .clock) ⌝ }
+    ensures { λ r. ⌜ r ≡ turned (controls den rsel yscroll csel compare my enable yexp) side ⌝ }
+{
+    let beam0 = side.beam;
+    let frame0 = side.frame;
+    let irq0 = side.irq;
+    let border0 = side.border;
+    let sprites0 = side.sprites;
+    let rows0 = side.rows;
+    let pending0 = side.pending;
+    let bus0 = side.bus;
+    let clocked = bus0.clocked();
+    let cycle = timing::next_cycle(beam0.cycle);
+    let begins = schedule::line_begins(cycle);
+    let last = begins & timing::at_last_line(beam0.raster);
+    let line = raster_begun(begins, beam0.raster);
+    let frame1 = frame0.begin(begins, last, line, den, compare);
+    let bad = timing::bad_line(line, yscroll, frame1.latch);
+    let wraps = schedule::frame_ends(cycle) & frame1.ending;
+    let raster = laws::pick16(wraps, 0, line);
+    let frame = frame1.end(wraps);
+    let irq = raise(
+        irq0,
+        (frame1.matched & !frame0.matched) | (wraps & (compare == 0)),
+    );
+    let border = border_turn(border0, cycle, raster, den, csel);
+    let phased = sprites_turn(sprites0, cycle, raster, my, enable, yexp);
+    let ba = timing::ba_output(bad, cycle);
+    let asked = arbitration::request(ba, phased.dma, cycle);
+    let bus = clocked.arbitrate(asked);
+    let k = schedule::slot_sprite(cycle);
+    let sprite = phased.at(k);
+    let mask = laws::has_bit(phased.dma, k);
+    let sprites = sprites_slot(phased, cycle, k);
+    let after = schedule::slot_after_bus(cycle);
+    let low = laws::pick_bool(after, bus.aeclow, bus0.aeclow);
+    let pointing = schedule::pointer_time(cycle);
+    let fetching = schedule::data_time(cycle);
+    let rising = bad & !beam0.bad;
+    let rowed = rows_turn(rows0, cycle, bad, rising, wraps);
+    let rows = rowed.rows;
+    let pending = access::next_pending(rowed.fetches & !bus.aeclow, rows.vmli, pending0);
+    let beam = Beam {
+        cycle: cycle,
+        raster: raster,
+        den: den,
+        rsel: rsel,
+        yscroll: yscroll,
+        bad: bad,
+        rising: rising,
+        ba: ba,
+    };
+    let orders = Orders {
+        cycle: cycle,
+        graphics: rowed.graphics,
+        moves: rowed.moves,
+        waiting: rowed.waiting,
+        plain: bad | (rowed.rc != 0),
+        hidden: border.disabled,
+        vc: rowed.vc,
+        vmli: rowed.vmli,
+        rc: rowed.rc,
+        fills: rowed.fetches & bus.aeclow,
+        place: rows.vmli,
+        column: rows.vc,
+        sprite: k,
+        pointing: pointing,
+        fetching: fetching,
+        mask: mask,
+        flag: sprite.dma,
+        mc: sprite.mc,
+        low: low,
+    };
+    let next = Side {
+        irq: irq,
+        beam: beam,
+        frame: frame,
+        border: border,
+        sprites: sprites,
+        bus: bus,
+        rows: rows,
+        pending: pending,
+        changed: irq.line,
+    };
+    Turned {
+        side: next,
+        orders: orders,
+    }
+}
