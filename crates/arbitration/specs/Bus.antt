@@ -1,5 +1,6 @@
 -- BA warns the CPU and AEC takes the bus (Bauer 3.6.1).
-use Prim.Native.Nat.{ℕ, zero, suc}
+use Prim.Native.Nat.{ℕ, zero, suc, _≤_}
+use mathlib.Core.Path.{_≡_}
 use mathlib.Core.Bool.{Bool, true, false, not, _&&_, _||_, cond}
 use lib.Dec.{eqb}
 use lib.Bits.{bitAnd}
@@ -37,6 +38,11 @@ down (pos (suc n)) = pos n
 -- 01, Arbitration: no request sets 3; so AEC falls in the fourth cycle of a request (Bauer 3.6.1)
 unfoldable pub aecAfter : ℤ → Bool → ℤ
 aecAfter aec asked = cond asked (down aec) (pos 3)
+
+-- 01, States we accept: AEC counter −1 to 3
+abbrev pub Counted : ℤ → Type 0
+Counted (pos n) = n ≤ 3
+Counted (negsuc n) = n ≡ 0
 
 -- 01, Arbitration: AEC is low below 0
 unfoldable pub low : ℤ → Bool

@@ -6,3 +6,8 @@ use lib.IntN.{ℤ, pos, negsuc}
 abbrev pub inRange : ℤ → Type 0
 inRange (pos n) = n ≤ 4611686018427387904
 inRange (negsuc n) = ⊥
+
+-- 01, Numbers: 4 is given above this
+abbrev pub canTick : ℤ → Type 0
+canTick (pos n) = n ≤ 4611686018427387902
+canTick (negsuc n) = ⊥

@@ -7,7 +7,7 @@ use Rattle.schedule.specs.Kind.{lastCycle, firstPointer, pointerSlot, da
 
 pub data Event : Type 0 where
   lineBegins frameEnds : Event
-  matrixRequest vcLoad accessChosen characterAccess graphicsAccess lateIdle accessEnds graphicsCleared rowEnds : Event
+  matrixRequest vcLoad accessChosen characterAccess vmliCounts graphicsAccess lateIdle accessEnds graphicsCleared rowEnds : Event
   crunch mcbaseStep firstPhase secondPhase mcLoad : Event
   mainRemembered left40 left38 right38 right40 lineEnds : Event
   pointerOf dataOf : ℕ → Event
@@ -27,6 +27,7 @@ diagram matrixRequest = from 12 54  -- Bauer 3.7.2 rule 3: BA low on a bad line
 diagram vcLoad = at 14  -- Bauer 3.7.2 rule 2
 diagram accessChosen = at 15  -- 01, tick 8; departs, DIFFERENCES 1
 diagram characterAccess = from 15 54  -- Bauer 3.6.3: c-accesses
+diagram vmliCounts = from 14 55  -- 01, States we accept: where VMLI is bounded by the cycle
 diagram graphicsAccess = from 16 55  -- Bauer 3.6.3: g-accesses
 diagram lateIdle = from 18 55  -- fetch.rs: where an idle access may read 0x38FF
 diagram accessEnds = at 55  -- 01, tick 7

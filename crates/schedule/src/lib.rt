@@ -1,7 +1,7 @@
 // The schedule of a line: when each event happens, which sprites ask for the bus, and how many have DMA.
 ghost use mathlib.Core.Path.{_≡_};
 ghost use mathlib.Core.Bool.{Bool};
-ghost use Rattle.schedule.specs.Diagram.{Event, lineBegins, frameEnds, matrixRequest, vcLoad, accessChosen, characterAccess, graphicsAccess, lateIdle, accessEnds, graphicsCleared, rowEnds, crunch, mcbaseStep, firstPhase, secondPhase, mcLoad, mainRemembered, left40, left38, right38, right40, lineEnds, happens, pointerTime, dataTime, slotSprite, slotAfterBus};
+ghost use Rattle.schedule.specs.Diagram.{Event, lineBegins, frameEnds, matrixRequest, vcLoad, accessChosen, characterAccess, vmliCounts, graphicsAccess, lateIdle, accessEnds, graphicsCleared, rowEnds, crunch, mcbaseStep, firstPhase, secondPhase, mcLoad, mainRemembered, left40, left38, right38, right40, lineEnds, happens, pointerTime, dataTime, slotSprite, slotAfterBus};
 ghost use Rattle.schedule.specs.Requests.{maskAt, spritesIn};
 
 // The sprites that ask in each cycle, sprite k at bit k. No cycle has the number 0.
@@ -162,6 +162,12 @@ pub fn character_access(cycle: u16) -> bool
     ensures { λ r. ⌜ r ≡ happens characterAccess cycle ⌝ }
 {
     (15 <= cycle) & (cycle <= 54)
+}
+
+pub fn vmli_counts(cycle: u16) -> bool
+    ensures { λ r. ⌜ r ≡ happens vmliCounts cycle ⌝ }
+{
+    (14 <= cycle) & (cycle <= 55)
 }
 
 pub fn graphics_access(cycle: u16) -> bool

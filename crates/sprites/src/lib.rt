@@ -3,6 +3,7 @@ ghost use mathlib.Core.Path.{_≡_};
 ghost use mathlib.Core.Bool.{Bool};
 ghost use Prim.Native.Nat.{_<_, _≤_};
 ghost use Rattle.sprites.specs.Sprites.{fresh, allFresh, spriteAt, crunched, nextBase, stepped, stepOne, mcbaseStepped, begun, startOne, started, firstPhased, secondPhased, loadOne, loaded, showOne, shown, mcLoaded, clearAfter, flipAfter, expandWritten, fetches, fetched};
+ghost use Rattle.sprites.specs.Fine.{fineOne, fineTest};
 
 pub struct Sprite {
     pub number: u8,
@@ -250,6 +251,27 @@ impl Sprites {
         self.clear = clear_after(value, cycle, self.clear, self.flip);
         self.flip = flip_after(value, cycle, old, self.flip);
         self
+    }
+
+    fn fine_one(self, k: usize) -> bool
+        requires { ⌜ k < 8 ⌝ }
+        ensures { λ r. ⌜ r ≡ fineOne k (spriteAt self k) ⌝ }
+    {
+        let s = self.each[k];
+        (s.number as usize == k) & (s.mc <= 63) & (s.base <= 63)
+    }
+
+    // Whether a state we accept may have these sprites.
+    pub fn fine(self) -> bool
+        ensures { λ r. ⌜ r ≡ fineTest 8 self ⌝ }
+    {
+        let mut fine = true;
+        let mut k: usize = 0;
+        while k < 8 {
+            fine = fine & self.fine_one(k);
+            k += 1;
+        }
+        fine
     }
 
     // Whether sprite k's slots fetch: the mask and the sprite's own flag.

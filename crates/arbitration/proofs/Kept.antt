@@ -1,0 +1,45 @@
+-- The AEC counter and the clock keep their bounds, and which field of the bus a step changes. Assumes nothing.
+use Prim.Native.Nat.{zero, suc}
+use mathlib.Core.Path.{_≡_, refl}
+use mathlib.Core.Bool.{Bool}
+use native.Mathlib.Omega.{arith}
+use lib.IntN.{ℤ, pos, negsuc}
+use Rattle.laws.specs.Clock.{inRange, canTick}
+use Rattle.laws.proofs.Choice.{either}
+use Rattle.arbitration.specs.declared.Bus.{Bus}
+use Rattle.arbitration.specs.Bus.{down, Counted, aecAfter, arbitrated, clockOn, clocked}
+
+counted-down : (z : ℤ) → Counted z → Counted (down z)
+counted-down (negsuc n) h = h
+counted-down (pos zero) h = refl
+counted-down (pos (suc n)) h = omega arith
+
+pub aec-kept : (z : ℤ) (asked : Bool) → Counted z → Counted (aecAfter z asked)
+unfolding aecAfter
+aec-kept z asked h = either Counted asked (counted-down z h) (omega arith)
+
+pub clock-on-range : (z : ℤ) → canTick z → inRange (clockOn z)
+unfolding clockOn
+clock-on-range (pos n) h = omega arith
+clock-on-range (negsuc n) h = absurd h
+
+module _ (b : Bus) where
+  pub arbitrated-aec : (asked : Bool) → arbitrated b asked .aec ≡ aecAfter (b .aec) asked
+  unfolding arbitrated
+  arbitrated-aec asked = refl
+
+  pub arbitrated-clock : (asked : Bool) → arbitrated b asked .clock ≡ b .clock
+  unfolding arbitrated
+  arbitrated-clock asked = refl
+
+  pub clocked-aec : clocked b .aec ≡ b .aec
+  unfolding clocked
+  clocked-aec = refl
+
+  pub clocked-clock : clocked b .clock ≡ clockOn (b .clock)
+  unfolding clocked
+  clocked-clock = refl
+
+  pub clocked-aeclow : clocked b .aeclow ≡ b .aeclow
+  unfolding clocked
+  clocked-aeclow = refl
