@@ -4,11 +4,11 @@ use mathlib.Core.Path.{_≡_, refl, _∙_}
 use mathlib.Core.Bool.{Bool, true, _&&_, _||_, cond}
 use mathlib.Core.List.{List}
 use native.Mathlib.Omega.{arith}
-use native.Mathlib.Decide.{ℕ-discrete}
+use native.Mathlib.Decide.{ℕ-discrete, decLt}
 use native.Mathlib.Nat.{not-suc-le-zero}
 use borrow.Author.Tests.{eqb-true, leb-true, eq-eqb, le-leb}
 use lib.Dec.{eqb, leb}
-use lib.ListN.{length, getD, length-set}
+use lib.ListN.{length, getD, length-set, List·getD-eq-default}
 use lib.Seq.{getD-set-same, getD-set-other}
 use Rattle.laws.specs.Bits.{hasBit}
 use Rattle.laws.proofs.Choice.{either, left, right}
@@ -25,7 +25,7 @@ as-each e h = record { eight = rw e (h .eight); fine = λ k l. rw e (h .fine k l
 -- a change of sprite k keeps the others
 changed : {s : Sprites} {v : Sprite} (k : ℕ) → (FineSprite k (spriteAt s k) → FineSprite k v) → FineSprites s → FineSprites (spriteAt≔ k v s)
 unfolding spriteAt
-changed {s} {v} k f h = record { eight = length-set (s .each) k v ∙ h .eight; fine = λ j l. by-place j l (ℕ-discrete j k) }
+changed {s} {v} k f h = record { eight = rw (length-set (s .each) k v) (h .eight); fine = λ j l. by-place j l (ℕ-discrete j k) }
   where
     by-place : (j : ℕ) → j < 8 → Dec (j ≡ k) → FineSprite j (spriteAt (spriteAt≔ k v s) j)
     by-place j l (yes e) =
@@ -144,9 +144,19 @@ first-fine (suc n) s e k h = by-place (ℕ-discrete k n) (first-fine n s (left (
     by-place (yes p) below = rw p (fine-one-fine n (spriteAt s n) (right (fineTest n s) last e))
     by-place (no p) below = below (omega arith)
 
-pub fine-test-fine : {s : Sprites} → length (s .each) ≡ 8 → fineTest 8 s ≡ true → FineSprites s
-fine-test-fine {s} l e = record { eight = l; fine = first-fine 8 s e }
+-- past the list's end a sprite has the number 0, so the last one's number shows that there are eight
+at-least : (s : Sprites) → spriteAt s 7 .number ≡ 7 → Dec (7 < length (s .each)) → 8 ≤ length (s .each)
+unfolding spriteAt
+at-least s e (yes h) = omega arith
+at-least s e (no h) =
+    let past : getD (s .each) 7 none ≡ none = List·getD-eq-default (s .each) none (omega arith) in
+    let z : _≡_ {A = ℕ} 0 7 = rw past at e in
+    absurd (omega arith)
+
+pub fine-test-fine : {s : Sprites} → fineTest 8 s ≡ true → FineSprites s
+fine-test-fine {s} e =
+    record { eight = at-least s (first-fine 8 s e 7 (omega arith) .number) (decLt 7 (length (s .each))); fine = first-fine 8 s e }
 
 pub fine-fresh : FineSprites allFresh
 unfolding allFresh fresh spriteAt fineTest
-fine-fresh = fine-test-fine refl refl
+fine-fresh = fine-test-fine refl

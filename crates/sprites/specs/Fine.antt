@@ -1,5 +1,5 @@
 -- The sprites of a state we accept, and the test for them.
-use Prim.Native.Nat.{ℕ, zero, suc, _<_}
+use Prim.Native.Nat.{ℕ, zero, suc, _<_, _≤_}
 use mathlib.Core.Path.{_≡_}
 use mathlib.Core.Bool.{Bool, true, _&&_}
 use lib.Dec.{eqb, leb}
@@ -16,7 +16,7 @@ pub record FineSprite (k : ℕ) (t : Sprite) : Type 0 where
 
 -- 01, States we accept: all eight
 pub record FineSprites (s : Sprites) : Type 0 where
-  pub eight : length (s .each) ≡ 8
+  pub eight : 8 ≤ length (s .each)
   pub fine : (k : ℕ) → k < 8 → FineSprite k (spriteAt s k)
 
 -- the same as a test, of one sprite and of the first n
