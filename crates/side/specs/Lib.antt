@@ -2,3 +2,4 @@ pub mod Frame
 pub mod Rows
 pub mod Phases
 pub mod Turn
+pub mod Fine

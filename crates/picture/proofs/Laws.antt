@@ -1,0 +1,47 @@
+-- What the picture's step leaves as it is: no list changes its length, and the clock of the forced bad line stays. Assumes nothing.
+use Prim.Native.Nat.{ℕ}
+use mathlib.Core.Path.{_≡_, refl, _∙_}
+use mathlib.Core.List.{List}
+use lib.IntN.{ℤ}
+use lib.ListN.{length}
+use Rattle.laws.proofs.Choice.{either}
+use Rattle.access.specs.Merge.{Merging}
+use Rattle.access.proofs.Laws.{filled-length, latched-length, pointers-length, byte-two-length, data-length, words-length}
+use Rattle.side.specs.declared.Orders.{Orders}
+use Rattle.picture.specs.declared.Pen.{Pen}
+use Rattle.picture.specs.Pen.{Latches, characterOf, penAfter, matrixAfter, slotted}
+
+pub character-length : (m : List ℕ) (o : Orders) (clock : ℤ) (p : Pen) → length (characterOf m o clock p .matrix) ≡ length m
+unfolding characterOf
+character-length m o clock p =
+    either (λ (x : Merging). length (x .matrix) ≡ length m) (o .graphics) (latched-length m _ _ _ _ _ _ _ _) refl
+
+pub matrix-length : (m : List ℕ) (o : Orders) (clock : ℤ) (p : Pen) (ptrs : ℕ) (ram rom colour : List ℕ) (bank : ℕ)
+    → length (matrixAfter m o clock p ptrs ram rom colour bank) ≡ length m
+unfolding matrixAfter
+matrix-length m o clock p ptrs ram rom colour bank = filled-length _ _ _ _ _ _ _ _ _ ∙ character-length m o clock p
+
+pub forced-kept : (m : List ℕ) (o : Orders) (clock : ℤ) (p : Pen) (mode ptrs : ℕ) (ram rom : List ℕ) (bank : ℕ)
+    → penAfter m o clock p mode ptrs ram rom bank .forced ≡ p .forced
+unfolding penAfter
+forced-kept m o clock p mode ptrs ram rom bank = refl
+
+module _ (p b w : List ℕ) (o : Orders) (ptrs : ℕ) (ram rom : List ℕ) (bank : ℕ) where
+  pub slotted-pointers : length (slotted p b w o ptrs ram rom bank .pointers) ≡ length p
+  unfolding slotted
+  slotted-pointers =
+      let Long : Latches → Type 0 = λ x. length (x .pointers) ≡ length p in
+      either Long (o .pointing) (pointers-length p _ _ _ _ _) (either Long (o .fetching) refl refl)
+
+  pub slotted-bytes : length (slotted p b w o ptrs ram rom bank .bytes) ≡ length b
+  unfolding slotted
+  slotted-bytes =
+      let Long : Latches → Type 0 = λ x. length (x .bytes) ≡ length b in
+      either Long (o .pointing) (byte-two-length b _ _ _ _ _ _ _ _ _)
+      (either Long (o .fetching) (data-length p b _ _ _ _ _ _ _ _) refl)
+
+  pub slotted-words : length (slotted p b w o ptrs ram rom bank .words) ≡ length w
+  unfolding slotted
+  slotted-words =
+      let Long : Latches → Type 0 = λ x. length (x .words) ≡ length w in
+      either Long (o .pointing) refl (either Long (o .fetching) (words-length p b w _ _ _ _ _ _ _ _) refl)

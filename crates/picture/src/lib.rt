@@ -1,0 +1,198 @@
+// The picture side: what the accesses of a cycle leave in it. It is told what to do by the timing side's orders.
+ghost use mathlib.Core.Path.{_≡_};
+ghost use mathlib.Core.Bool.{Bool};
+ghost use Prim.Native.Nat.{_<_};
+ghost use lib.ListN.{length};
+ghost use lib.IntN.{ℤ};
+ghost use Rattle.laws.specs.Clock.{inRange};
+ghost use Rattle.memory.specs.Memory.{Lent};
+ghost use Rattle.access.specs.Merge.{latchOf};
+ghost use Rattle.picture.specs.Pen.{freshPen, sameClock, characterOf, graphicsOf, penAfter, Latches, slotted, matrixAfter};
+use access::Latch;
+use side::Orders;
+
+// The picture's numbers; its four arrays are lent beside it.
+pub struct Pen {
+    pub ch: u16,
+    pub carry: u16,
+    pub gfx: u8,
+    pub mode: u8,
+    pub old: u8,
+    pub changing: bool,
+    pub forced: i64,
+}
+
+impl Pen {
+    pub fn new() -> Self
+        ensures { λ r. ⌜ r ≡ freshPen ⌝ }
+    {
+        Self {
+            ch: 0,
+            carry: 0,
+            gfx: 0,
+            mode: 0,
+            old: 0,
+            changing: false,
+            forced: 0,
+        }
+    }
+}
+
+// Whether this is the very cycle that forced the bad line.
+pub fn same_clock(clock: i64, forced: i64) -> bool
+    ensures { λ r. ⌜ r ≡ sameClock clock forced ⌝ }
+{
+    clock == forced
+}
+
+// The character latch after the graphics access of this cycle, if it has one.
+pub fn character(matrix: &mut [u16], o: Orders, clock: i64, pen: Pen) -> Latch
+    requires { ⌜ length (now matrix) ≡ 40 ⌝ ∗ ⌜ inRange clock × inRange (pen .forced) ⌝ }
+    ensures { λ r. ⌜ r ≡ latchOf (characterOf (now (matrix .entry)) o clock pen) ⌝ ∗ ⌜ now (matrix .exit) ≡ characterOf (now (matrix .entry)) o clock pen .matrix ⌝ }
+{
+    let graphics = o.graphics;
+    if !graphics {
+        return Latch {
+            ch: pen.ch,
+            carry: pen.carry,
+        };
+    }
+    let f = access::since(clock, pen.forced);
+    access::latched_char(
+        matrix,
+        o.moves,
+        o.hidden,
+        o.plain,
+        o.cycle,
+        f,
+        o.vmli,
+        pen.ch,
+        pen.carry,
+    )
+}
+
+// The graphics byte after this cycle.
+pub fn graphics(
+    ch: u16,
+    o: Orders,
+    clock: i64,
+    pen: Pen,
+    mode: u8,
+    ptrs: u8,
+    ram: &[u8],
+    rom: &[u8],
+    bank: u8,
+) -> u8
+    requires { ⌜ Lent (now ram) (now rom) ⌝ }
+    ensures { λ r. ⌜ r ≡ graphicsOf ch o clock pen mode ptrs (now (ram .entry)) (now (rom .entry)) bank ⌝ }
+{
+    let graphics = o.graphics;
+    if !graphics {
+        return laws::pick8(schedule::graphics_cleared(o.cycle), 0, pen.gfx);
+    }
+    let forced = o.waiting & schedule::late_idle(o.cycle) & same_clock(clock, pen.forced);
+    let address = access::access_address(
+        o.moves,
+        forced,
+        mode,
+        pen.old,
+        ptrs,
+        ch,
+        o.vc,
+        o.rc,
+        bank,
+    );
+    let found = memory::read(ram, rom, bank, address);
+    found.byte
+}
+
+// The picture's numbers after a cycle; the matrix line takes the character access of the same cycle.
+pub fn draw(
+    pen: Pen,
+    o: Orders,
+    clock: i64,
+    mode: u8,
+    ptrs: u8,
+    matrix: &mut [u16],
+    ram: &[u8],
+    rom: &[u8],
+    colour: &[u8],
+    bank: u8,
+) -> Pen
+    requires { ⌜ length (now matrix) ≡ 40 ⌝ ∗ ⌜ inRange clock × inRange (pen .forced) ⌝ ∗ ⌜ Lent (now ram) (now rom) ⌝ ∗ ⌜ length (now colour) ≡ 1024 ⌝ }
+    ensures { λ r. ⌜ r ≡ penAfter (now (matrix .entry)) o clock pen mode ptrs (now (ram .entry)) (now (rom .entry)) bank ⌝ ∗ ⌜ now (matrix .exit) ≡ matrixAfter (now (matrix .entry)) o clock pen ptrs (now (ram .entry)) (now (rom .entry)) (now (colour .entry)) bank ⌝ }
+{
+    let latch = character(matrix, o, clock, pen);
+    let gfx = graphics(latch.ch, o, clock, pen, mode, ptrs, ram, rom, bank);
+    access::fill(
+        matrix,
+        o.fills,
+        o.place,
+        o.column,
+        ptrs,
+        ram,
+        rom,
+        colour,
+        bank,
+    );
+    let old = laws::pick8(pen.changing, mode, pen.old);
+    Pen {
+        ch: latch.ch,
+        carry: latch.carry,
+        gfx: gfx,
+        mode: mode,
+        old: old,
+        changing: false,
+        forced: pen.forced,
+    }
+}
+
+// The sprite slot of a cycle, if it has one.
+pub fn slot(
+    pointers: &mut [u8],
+    bytes: &mut [u8],
+    words: &mut [u32],
+    o: Orders,
+    ptrs: u8,
+    ram: &[u8],
+    rom: &[u8],
+    bank: u8,
+)
+    requires { ⌜ (length (now pointers) ≡ 8) × (length (now bytes) ≡ 24) × (length (now words) ≡ 8) ⌝ ∗ ⌜ o .sprite < 8 ⌝ ∗ ⌜ Lent (now ram) (now rom) ⌝ }
+    ensures { λ r. ⌜ now (pointers .exit) ≡ slotted (now (pointers .entry)) (now (bytes .entry)) (now (words .entry)) o ptrs (now (ram .entry)) (now (rom .entry)) bank .pointers ⌝ ∗ ⌜ now (bytes .exit) ≡ slotted (now (pointers .entry)) (now (bytes .entry)) (now (words .entry)) o ptrs (now (ram .entry)) (now (rom .entry)) bank .bytes ⌝ ∗ ⌜ now (words .exit) ≡ slotted (now (pointers .entry)) (now (bytes .entry)) (now (words .entry)) o ptrs (now (ram .entry)) (now (rom .entry)) bank .words ⌝ }
+{
+    let k = o.sprite;
+    let pointing = o.pointing;
+    let fetching = o.fetching;
+    if pointing {
+        access::pointer_slot(
+            pointers,
+            bytes,
+            k,
+            schedule::mc_load(o.cycle),
+            o.mask & o.flag,
+            o.mc,
+            o.low,
+            ptrs,
+            ram,
+            rom,
+            bank,
+        );
+        return;
+    }
+    if fetching {
+        access::data_slot(
+            pointers,
+            bytes,
+            words,
+            k,
+            o.mask,
+            o.flag,
+            o.mc,
+            o.low,
+            ram,
+            rom,
+            bank,
+        );
+    }
+}
