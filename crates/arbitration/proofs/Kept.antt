@@ -7,7 +7,7 @@ use lib.IntN.{ℤ, pos, negsuc}
 use Rattle.laws.specs.Clock.{inRange, canTick}
 use Rattle.laws.proofs.Choice.{either}
 use Rattle.arbitration.specs.declared.Bus.{Bus}
-use Rattle.arbitration.specs.Bus.{down, Counted, aecAfter, arbitrated, clockOn, clocked}
+use Rattle.arbitration.specs.Bus.{down, Counted, aecAfter, arbitrated, clockOn, clocked, fresh}
 
 counted-down : (z : ℤ) → Counted z → Counted (down z)
 counted-down (negsuc n) h = h
@@ -43,3 +43,12 @@ module _ (b : Bus) where
   pub clocked-aeclow : clocked b .aeclow ≡ b .aeclow
   unfolding clocked
   clocked-aeclow = refl
+
+-- power-up is within both bounds
+pub fresh-aec : Counted (fresh .aec)
+unfolding fresh
+fresh-aec = omega arith
+
+pub fresh-clock : inRange (fresh .clock)
+unfolding fresh
+fresh-clock = omega arith

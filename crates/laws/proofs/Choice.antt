@@ -1,6 +1,7 @@
 -- A choice by a test: what holds of both ways, and what each way shows of the test. Assumes nothing.
 use mathlib.Core.Path.{_≡_, refl}
 use mathlib.Core.Bool.{Bool, true, false, not, _&&_, _||_, cond}
+use Rattle.laws.specs.Pick.{pick}
 
 -- what holds of both holds of the one that is picked
 pub either : {A : Type 0} (P : A → Type 0) (b : Bool) {x y : A} → P x → P y → P (cond b x y)
@@ -26,3 +27,8 @@ pub right : (a b : Bool) → (a && b) ≡ true → b ≡ true
 right true b e = e
 right false true e = refl
 right false false e = e
+
+-- a choice that stays shut is the choice
+pub picks : {A : Type 0} (b : Bool) (x y : A) → pick b x y ≡ cond b x y
+unfolding pick
+picks b x y = refl

@@ -2,14 +2,16 @@
 use Prim.Native.Nat.{ℕ}
 use mathlib.Core.Path.{_≡_, refl, _∙_}
 use mathlib.Core.List.{List}
+use native.Mathlib.Omega.{arith}
 use lib.IntN.{ℤ}
 use lib.ListN.{length}
+use Rattle.laws.specs.Clock.{inRange}
 use Rattle.laws.proofs.Choice.{either}
 use Rattle.access.specs.Merge.{Merging}
 use Rattle.access.proofs.Laws.{filled-length, latched-length, pointers-length, byte-two-length, data-length, words-length}
 use Rattle.side.specs.declared.Orders.{Orders}
 use Rattle.picture.specs.declared.Pen.{Pen}
-use Rattle.picture.specs.Pen.{Latches, characterOf, penAfter, matrixAfter, slotted}
+use Rattle.picture.specs.Pen.{Latches, freshPen, characterOf, penAfter, matrixAfter, slotted}
 
 pub character-length : (m : List ℕ) (o : Orders) (clock : ℤ) (p : Pen) → length (characterOf m o clock p .matrix) ≡ length m
 unfolding characterOf
@@ -25,6 +27,11 @@ pub forced-kept : (m : List ℕ) (o : Orders) (clock : ℤ) (p : Pen) (mode ptrs
     → penAfter m o clock p mode ptrs ram rom bank .forced ≡ p .forced
 unfolding penAfter
 forced-kept m o clock p mode ptrs ram rom bank = refl
+
+-- power-up's is in range
+pub fresh-forced : inRange (freshPen .forced)
+unfolding freshPen
+fresh-forced = omega arith
 
 module _ (p b w : List ℕ) (o : Orders) (ptrs : ℕ) (ram rom : List ℕ) (bank : ℕ) where
   pub slotted-pointers : length (slotted p b w o ptrs ram rom bank .pointers) ≡ length p

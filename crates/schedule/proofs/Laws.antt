@@ -1,10 +1,13 @@
 -- What callers may know of the schedule without opening it. Assumes nothing.
-use mathlib.Core.Path.{_≡_}
-use mathlib.Core.Bool.{Bool, true, false, _||_, cond}
-use Prim.Native.Nat.{ℕ, zero, suc, _<_, _≤_}
+use mathlib.Core.Path.{_≡_, subst}
+use mathlib.Core.Bool.{Bool, true, false, _&&_, _||_, cond}
+use Prim.Native.Nat.{ℕ, zero, suc, _+_, _-_, _<_, _≤_}
 use native.Mathlib.Omega.{arith}
+use lib.Dec.{T, leb, leb→le}
 use Rattle.laws.proofs.Choice.{either}
-use Rattle.schedule.specs.Diagram.{slotSprite, slotBelow, onLine, during, diagram, pointerOf, dataOf}
+use Rattle.laws.proofs.Below as Below
+use Rattle.schedule.specs.Kind.{lastCycle}
+use Rattle.schedule.specs.Diagram.{happens, vcLoad, vmliCounts, graphicsAccess, slotSprite, slotBelow, onLine, during, diagram, pointerOf, dataOf}
 
 below : (n c : ℕ) → slotBelow n c ≤ n
 below zero c = omega arith
@@ -19,3 +22,31 @@ below-one n c =
 pub slot-small : (c : ℕ) → slotSprite c < 8
 unfolding slotSprite
 slot-small c = either (λ (k : ℕ). k < 8) (onLine c) (omega (arith, below-one 7 c)) (omega arith)
+
+-- no graphics access in the cycle that loads VC and clears VMLI
+pub load-alone : (c : ℕ) → c ≤ lastCycle → happens vcLoad c ≡ true → happens graphicsAccess c ≡ false
+unfolding happens
+load-alone c h e = rw e at (Below.same-test (λ k. happens vcLoad k && happens graphicsAccess k) (λ k. false) 64 tt c (omega arith))
+
+-- how far VMLI may have counted after cycle c
+abbrev pub room : ℕ → ℕ
+room c = cond (happens vmliCounts c) (c - 15) 40
+
+-- the room of cycle c, one more by a graphics access in cycle d, is within that of cycle d
+abbrev within : ℕ → ℕ → Bool
+within c d = leb (room c + cond (happens graphicsAccess d) 1 0) (room d)
+
+unless : (a b : Bool) → T (a || b) → a ≡ false → T b
+unless true b t e = absurd (subst T e t)
+unless false b t e = t
+
+-- but in the cycle that clears VMLI
+pub room-next : (c : ℕ) → c < lastCycle → happens vcLoad (c + 1) ≡ false → room c + cond (happens graphicsAccess (c + 1)) 1 0 ≤ room (c + 1)
+unfolding happens
+room-next c h e =
+    leb→le _ _ (unless (happens vcLoad (c + 1)) (within c (c + 1)) (Below.below (λ k. happens vcLoad (k + 1) || within k (k + 1)) 63 tt c h) e)
+
+-- and from the last cycle to the first
+pub room-wraps : room lastCycle + cond (happens graphicsAccess 1) 1 0 ≤ room 1
+unfolding happens
+room-wraps = omega arith

@@ -1,1 +1,3 @@
 pub mod Glue
+pub mod Kept
+pub mod Laws

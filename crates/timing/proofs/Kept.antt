@@ -1,12 +1,12 @@
 -- What the next cycle and the next line are, and that they stay on the line and in the frame. Assumes nothing.
 use Prim.Native.Nat.{ℕ, _+_, _<_, _≤_}
-use mathlib.Core.Path.{_≡_}
+use mathlib.Core.Path.{_≡_, refl}
 use native.Mathlib.Omega.{arith}
 use borrow.Author.Tests.{ltb-true, lt-ltb, le-ltb}
 use lib.Dec.{ltb}
 use Rattle.laws.proofs.Choice.{either, by-test}
 use Rattle.schedule.specs.Kind.{lastCycle, lastLine}
-use Rattle.timing.specs.Beam.{nextCycle, nextLine}
+use Rattle.timing.specs.Beam.{nextCycle, nextLine, fresh}
 
 pub cycle-low : (c : ℕ) → 1 ≤ nextCycle c
 unfolding nextCycle
@@ -27,3 +27,12 @@ cycle-wraps c h = rw (le-ltb c lastCycle h)
 pub line-high : (r : ℕ) → r ≤ lastLine → nextLine r ≤ lastLine
 unfolding nextLine
 line-high r h = by-test (λ (n : ℕ). n ≤ lastLine) (ltb r lastLine) (λ e. omega (arith, ltb-true r lastLine e)) (λ e. h)
+
+-- power-up is in the last cycle of the last line
+pub fresh-cycle : fresh .cycle ≡ lastCycle
+unfolding fresh
+fresh-cycle = refl
+
+pub fresh-raster : fresh .raster ≡ lastLine
+unfolding fresh
+fresh-raster = refl

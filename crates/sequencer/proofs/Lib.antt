@@ -1,0 +1,5 @@
+pub mod Accepted
+pub mod Parts
+pub mod Glue
+pub mod Kept
+pub mod Runs

@@ -1,0 +1,147 @@
+-- A run of ticks: what it holds from tick to tick, and how it ends. Assumes nothing.
+use Prim.Native.Nat.{ℕ, zero, suc, _+_, _-_, _<_, _≤_}
+use mathlib.Core.Path.{_≡_, refl, sym, _∙_, ap}
+use mathlib.Core.Bool.{Bool, true, false, _&&_, cond}
+use native.Mathlib.Omega.{arith}
+use native.Mathlib.Numerals.{add-one}
+use native.Mathlib.Nat.{zero-add, suc-add}
+use lib.Dec.{eqb, ltb}
+use lib.ListN.{length}
+use borrow.Author.Tests.{eqb-true, ne-eqb}
+use Rattle.laws.proofs.Choice.{left, right}
+use Rattle.memory.specs.Memory.{Lent}
+use Rattle.registers.specs.declared.Registers.{Registers}
+use Rattle.sequencer.specs.declared.Chip.{Chip}
+use Rattle.sequencer.specs.declared.Answer.{Answer}
+use Rattle.sequencer.specs.Chip.{Host, World, chipOf}
+use Rattle.sequencer.specs.Accept.{accepted, tickable}
+use Rattle.sequencer.specs.Tick.{Ready, Held, tickWorld, tickOf, lentRefusal, tickRefusal, answer, ticked, ticksFrom}
+use Rattle.sequencer.proofs.Accepted.{accepted-clock, accepted-forced, clock-fine-range, tickable-can}
+use Rattle.sequencer.proofs.Kept.{world-kept}
+
+-- nothing lent is refused: the three lengths are right
+all-three : (a b : Bool) → _≡_ {A = ℕ} (cond a (cond b 2 0) 1) 0 → a ≡ true
+all-three true b e = refl
+all-three false b e = absurd (omega arith)
+
+lengths : (h : Host) → lentRefusal h ≡ 0 → (eqb (length (h .ram)) 16384 && eqb (length (h .rom)) 4096 && eqb (length (h .colour)) 1024) ≡ true
+unfolding lentRefusal
+lengths h e = all-three _ (ltb 3 (h .bank)) e
+
+module _ (h : Host) (e : lentRefusal h ≡ 0) where
+  ram : Bool
+  ram = eqb (length (h .ram)) 16384
+
+  rom : Bool
+  rom = eqb (length (h .rom)) 4096
+
+  last : Bool
+  last = eqb (length (h .colour)) 1024
+
+  lent : Lent (h .ram) (h .rom)
+  unfolding ram rom last
+  lent =
+      let t = left (ram && rom) last (lengths h e) in
+      record { inRam = eqb-true (length (h .ram)) 16384 (left ram rom t); inRom = eqb-true (length (h .rom)) 4096 (right ram rom t) }
+
+  colour : length (h .colour) ≡ 1024
+  unfolding ram rom last
+  colour = eqb-true (length (h .colour)) 1024 (right (ram && rom) last (lengths h e))
+
+pub ready : {h : Host} {g : Registers} {w : World} → Held h g w → tickable (w .side .bus .clock) ≡ true → Ready h w
+ready {h} {g} {w} held t = record {
+  lent = lent h (held .free);
+  colour = colour h (held .free);
+  forty = held .forty;
+  eight = held .eight;
+  threes = held .threes;
+  eightWords = held .eightWords;
+  clock = tickable-can _ (accepted-clock (chipOf g w) (held .fine)) t;
+  forced = clock-fine-range _ (accepted-forced (chipOf g w) (held .fine));
+}
+
+-- a refusal stays: the state is as it was, so the next tick is refused alike
+same-again : (h : Host) (c : Chip) (t : Answer) (i : ℕ) → ticksFrom h i c ≡ t → eqb (t .refused) 0 ≡ false → ticksFrom h (suc i) c ≡ t
+unfolding ticksFrom
+same-again h c t i s r = rw (s, r)
+
+stays : (h : Host) (c : Chip) (t : Answer) (i : ℕ) → ticksFrom h i c ≡ t → eqb (t .refused) 0 ≡ false → (k : ℕ) → ticksFrom h (k + i) c ≡ t
+stays h c t i e r zero = rw zero-add e
+stays h c t i e r (suc k) = rw suc-add (same-again h c t (k + i) (stays h c t i e r k) r)
+
+-- a tick that is refused ends every run that has one more to do
+pub ended : (h : Host) (c : Chip) (t : Answer) (i n : ℕ) → ticksFrom h (suc i) c ≡ t → eqb (t .refused) 0 ≡ false → i < n → t ≡ ticksFrom h n c
+ended h c t i n e r l =
+    let q : (n - suc i) + suc i ≡ n = omega arith in
+    sym (rw q at (stays h c t (suc i) e r (n - suc i)))
+
+next : (h : Host) (c d : Chip) (i : ℕ) → ticksFrom h i c ≡ answer 0 d → ticksFrom h (suc i) c ≡ ticked h d
+unfolding ticksFrom
+next h c d i e = rw e
+
+none : (h : Host) (c : Chip) → ticksFrom h 0 c ≡ answer 0 c
+unfolding ticksFrom
+none h c = refl
+
+pub refused-first : (h : Host) (c : Chip) (r n : ℕ) → tickRefusal h c ≡ r → (r ≡ 0 → ⊥) → (n ≡ 0 → ⊥) → answer r c ≡ ticksFrom h n c
+unfolding ticked
+refused-first h c r n e nz nn =
+    let z = ne-eqb r 0 nz in
+    ended h c (answer r c) 0 n (next h c c 0 (none h c) ∙ rw (e, z)) z (omega arith)
+
+module _ (h : Host) (c : Chip) where
+  pub one-tick : ticksFrom h 1 c ≡ ticked h c
+  one-tick = next h c c 0 (none h c)
+
+  module _ (n : ℕ) where
+    pub no-ticks : n ≡ 0 → answer 0 c ≡ ticksFrom h n c
+    no-ticks e = rw e (sym (none h c))
+
+    pub lent-first : {r : ℕ} → r ≡ lentRefusal h → (r ≡ 0 → ⊥) → (n ≡ 0 → ⊥) → answer r c ≡ ticksFrom h n c
+    unfolding tickRefusal
+    lent-first {r} e nz nn = refused-first h c r n (rw (← e, ne-eqb r 0 nz)) nz nn
+
+    pub state-first : lentRefusal h ≡ 0 → accepted c ≡ false → (n ≡ 0 → ⊥) → answer 3 c ≡ ticksFrom h n c
+    unfolding tickRefusal
+    state-first e a nn = refused-first h c 3 n (rw (e, a)) (λ z. omega arith) nn
+
+module _ (h : Host) (g : Registers) (w₀ : World) (n : ℕ) where
+  pub record Going (w : World) (i : ℕ) : Type 0 where
+    pub within : i ≤ n
+    pub state : ticksFrom h i (chipOf g w₀) ≡ answer 0 (chipOf g w)
+    pub held : Held h g w
+
+  pub begun : Held h g w₀ → Going w₀ 0
+  begun held = record { within = omega arith; state = none h (chipOf g w₀); held = held }
+
+  -- what a tick of a held state answers
+  taken : (w : World) → Held h g w → tickable (w .side .bus .clock) ≡ true → ticked h (chipOf g w) ≡ answer 0 (chipOf g (tickWorld h g w))
+  unfolding ticked tickRefusal
+  taken w held t = rw (held .free, held .fine, t)
+
+  late : (w : World) → Held h g w → tickable (w .side .bus .clock) ≡ false → ticked h (chipOf g w) ≡ answer 4 (chipOf g w)
+  unfolding ticked tickRefusal
+  late w held t = rw (held .free, held .fine, t)
+
+  pub on : {w v : World} {i : ℕ} → Going w i → i < n → tickable (w .side .bus .clock) ≡ true → v ≡ tickWorld h g w
+      → length (v .matrix) ≡ length (w .matrix) → length (v .pointers) ≡ length (w .pointers) → length (v .bytes) ≡ length (w .bytes) → length (v .words) ≡ length (w .words)
+      → Going v (i + 1)
+  on {w} {v} {i} r l t e a b c d = record {
+    within = omega arith;
+    state = rw (add-one, e) (next h (chipOf g w₀) (chipOf g w) i (r .state) ∙ taken w (r .held) t);
+    held = record {
+      free = r .held .free;
+      forty = a ∙ r .held .forty;
+      eight = b ∙ r .held .eight;
+      threes = c ∙ r .held .threes;
+      eightWords = d ∙ r .held .eightWords;
+      fine = rw e (world-kept h g w (r .held .fine) t);
+    };
+  }
+
+  pub no-more : {w : World} {i : ℕ} → Going w i → i < n → tickable (w .side .bus .clock) ≡ false → answer 4 (chipOf g w) ≡ ticksFrom h n (chipOf g w₀)
+  no-more {w} {i} r l t =
+      ended h (chipOf g w₀) (answer 4 (chipOf g w)) i n (next h (chipOf g w₀) (chipOf g w) i (r .state) ∙ late w (r .held) t) refl l
+
+  pub all-done : {w : World} {i : ℕ} → Going w i → n ≤ i → answer 0 (chipOf g w) ≡ ticksFrom h n (chipOf g w₀)
+  all-done {w} {i} r l = let q : i ≡ n = omega (arith, r .within) in rw (← q) (sym (r .state))

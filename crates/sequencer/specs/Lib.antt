@@ -1,0 +1,5 @@
+pub mod Chip
+pub mod Accept
+pub mod Tick
+pub mod Set
+pub mod Calls
