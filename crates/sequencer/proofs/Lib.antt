@@ -3,3 +3,4 @@ pub mod Parts
 pub mod Glue
 pub mod Kept
 pub mod Runs
+pub mod Only

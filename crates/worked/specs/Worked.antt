@@ -3,14 +3,27 @@ use mathlib.Core.Path.{_≡_, refl}
 use mathlib.Core.Bool.{Bool, true, false}
 use Prim.Native.Nat.{ℕ}
 use Rattle.laws.specs.Bits.{hasBit}
+use Rattle.laws.specs.Pick.{pick}
+use Rattle.schedule.specs.Diagram.{happens}
 use Rattle.schedule.specs.Requests.{maskAt}
 use Rattle.timing.specs.Beam.{badLine}
 use Rattle.sprites.specs.Sprites.{crunched, nextBase, stepped}
 use Rattle.sprites.specs.declared.Sprite.{Sprite}
+use Rattle.access.specs.Matrix.{lateWord}
+use Rattle.side.specs.declared.Rows.{Rows}
+use Rattle.side.specs.Rows.{vcAfter, vmliAfter, rcAfter, accessAfter, displayAfter, rowed}
 
 -- sprite 0 with these counters
 abbrev sprite : ℕ → ℕ → Bool → Sprite
 sprite base mc dma = record { number = 0; mc = mc; base = base; dma = dma }
+
+-- the row counters in display state with this RC
+abbrev row : ℕ → Rows
+row rc = record { vc = 0; vcbase = 0; rc = rc; vmli = 0; display = true; transition = false; access = false }
+
+-- RC and the display state after cycle 58
+abbrev rowEnd : Bool → ℕ → ℕ × Bool
+rowEnd bad rc = (rowed 58 bad false false (row rc) .rows .rc, rowed 58 bad false false (row rc) .rows .display)
 
 pub record Worked : Type 0 where
   -- 1. line 0x30, YSCROLL 0, latched: bad
@@ -31,9 +44,15 @@ pub record Worked : Type 0 where
   pub crunch-7 : nextBase true true 3 6 ≡ 7
   -- 9. base 60, MC 63, flip: 63, DMA off
   pub base-63 : stepped true false (sprite 60 63 true) ≡ sprite 63 63 false
+  -- 10. late byte 0xA7: 0x07FF
+  pub late-A7 : lateWord 0xA7 ≡ 0x07FF
+  -- 11. RC 7 with a bad line at 58: RC 0, Display
+  pub row-bad : rowEnd true 7 ≡ (0, true)
+  -- 12. RC 7 in Display without one: RC 7, Idle
+  pub row-plain : rowEnd false 7 ≡ (7, false)
 
 pub worked : Worked
-unfolding badLine maskAt crunched nextBase stepped hasBit
+unfolding badLine maskAt crunched nextBase stepped hasBit lateWord happens pick vcAfter vmliAfter rcAfter accessAfter displayAfter rowed
 worked =
     record {
       line-30 = refl;
@@ -45,4 +64,7 @@ worked =
       mask-55 = refl;
       crunch-7 = refl;
       base-63 = refl;
+      late-A7 = refl;
+      row-bad = refl;
+      row-plain = refl;
     }
