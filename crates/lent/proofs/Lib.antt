@@ -1,0 +1,4 @@
+pub mod Line
+pub mod Flag
+pub mod Left
+pub mod Alone
