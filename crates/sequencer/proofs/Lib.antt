@@ -4,3 +4,4 @@ pub mod Glue
 pub mod Kept
 pub mod Runs
 pub mod Only
+pub mod Sides

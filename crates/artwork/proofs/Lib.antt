@@ -1,0 +1,3 @@
+pub mod Artwork
+pub mod Instances
+pub mod Needed

@@ -1,0 +1,144 @@
+-- Each timing register is needed: two runs of two calls on one accepted chip, that differ in one timing value, differ after one tick.
+use Prim.Native.Nat.{ℕ}
+use mathlib.Core.Path.{_≡_, refl, ap, _∙_}
+use mathlib.Core.Bool.{true, false}
+use mathlib.Core.List.{_∷_}
+use lib.IntN.{ℤ, pos, negsuc}
+use Rattle.laws.specs.Bits.{hasBit, withBit, withoutBit}
+use Rattle.laws.specs.Pick.{pick}
+use Rattle.registers.specs.Registers.{latch, written}
+use Rattle.registers.specs.Irq.{quiet, asked, settled, triggered, irqWritten}
+use Rattle.schedule.specs.Diagram.{happens, pointerTime, dataTime}
+use Rattle.schedule.specs.Requests.{maskAt}
+use Rattle.timing.specs.Beam.{badLine, baOutput, nextCycle, atLastLine, nextLine}
+use Rattle.border.specs.Border as Borders
+use Rattle.sprites.specs.Sprites as Sprites
+use Rattle.sprites.specs.Fine.{fineTest}
+use Rattle.arbitration.specs.Bus as Buses
+use Rattle.access.specs.declared.Pending.the-variants.{Nothing}
+use Rattle.side.specs.declared.Side.{Side}
+use Rattle.side.specs.Frame.{rasterBegun, frameBegun, frameEnded, raised}
+use Rattle.side.specs.Rows.{freshRows}
+use Rattle.side.specs.Phases as Phases
+use Rattle.side.specs.Fine.{vmliLimit}
+use Rattle.side.specs.Turn.{turned}
+use Rattle.sequencer.specs.declared.Chip.{Chip}
+use Rattle.sequencer.specs.declared.Answer.{Answer}
+use Rattle.sequencer.specs.Chip.{Host, zeros, timed}
+use Rattle.sequencer.specs.Accept.{accepted, aecFine, clockFine, tickable, placeFine}
+use Rattle.sequencer.specs.Tick.{lentRefusal}
+use Rattle.sequencer.specs.Calls.{registerWritten, expandAt, controlsPlaced, displayPlaced}
+use Rattle.sequencer.proofs.Sides.{tick-taken, tick-side, tick-bank, tick-unaccepted}
+use Rattle.artwork.specs.Runs.{Call, tick, write, expand, place-controls, place-display, done}
+use Rattle.artwork.proofs.Instances.{filled, filled-low, filled-high, filled-above}
+
+-- after this cycle of this line: DEN latched, both borders open, no sprite busy; sprite 0 enabled at line 100
+abbrev pub chipForced : ℤ → ℕ → ℕ → Chip
+chipForced forced cycle raster =
+    record {
+      regs = record { mx = zeros 8; my = 100 ∷ zeros 7; cols = zeros 8; bg = zeros 4; msbx = 0; enable = 1; yexp = 0; xexp = 0; prio = 0; multi = 0; mc0 = 0; mc1 = 0; ctrl1 = 0x10; ctrl2 = 0; compare = 0; ptrs = 0; border = 0 };
+      side = record {
+        irq = quiet;
+        beam = record { cycle = cycle; raster = raster; den = true; rsel = false; yscroll = 0; bad = false; rising = false; ba = true };
+        frame = record { ending = false; matched = false; latch = true };
+        border = record { vertical = false; main = false; old = false; disabled = false; part40 = 0; part38 = 0; top = 55; bottom = 247 };
+        sprites = Sprites.allFresh;
+        bus = Buses.fresh;
+        rows = freshRows;
+        pending = Nothing;
+        changed = false;
+      };
+      picture = record {
+        pen = record { ch = 0; carry = 0; gfx = 0; mode = 0; old = 0; changing = false; forced = forced };
+        matrix = zeros 40;
+        pointers = zeros 8;
+        bytes = zeros 24;
+        words = zeros 8;
+      };
+    }
+
+abbrev pub chipAt : ℕ → ℕ → Chip
+chipAt cycle raster = chipForced (pos 0) cycle raster
+
+-- the timing side after a call and one tick
+abbrev pub after : Host → Call → Chip → Side
+after h x c = done (tick h) (done x c .chip) .chip .side
+
+pub record Needed (h : Host) : Type 0 where
+  -- YSCROLL, on line 0x30 in cycle 12: the line is bad and BA is low, or not
+  pub yscroll-0 : after h (place-controls 0x10 0 0) (chipAt 11 0x30) .bus .balow ≡ true
+  pub yscroll-1 : after h (place-controls 0x11 0 0) (chipAt 11 0x30) .bus .balow ≡ false
+  -- sprite 0's Y, on line 100 in cycle 55: its DMA starts, or not
+  pub y-100 : after h (write 0x01 100) (chipAt 54 100) .sprites .dma ≡ 1
+  pub y-101 : after h (write 0x01 101) (chipAt 54 100) .sprites .dma ≡ 0
+  -- its enable bit
+  pub enable-1 : after h (write 0x15 1) (chipAt 54 100) .sprites .dma ≡ 1
+  pub enable-0 : after h (write 0x15 0) (chipAt 54 100) .sprites .dma ≡ 0
+  -- CSEL, in cycle 56: the main border closes, or not
+  pub csel-0 : after h (place-controls 0x10 0x00 0) (chipAt 55 100) .border .main ≡ true
+  pub csel-1 : after h (place-controls 0x10 0x08 0) (chipAt 55 100) .border .main ≡ false
+  -- the compare line, as line 101 begins: an interrupt, or none
+  pub compare-101 : after h (write 0x12 101) (chipAt 63 100) .irq .flags ≡ 1
+  pub compare-102 : after h (write 0x12 102) (chipAt 63 100) .irq .flags ≡ 0
+  -- Y-expand, in cycle 55: the expansion flip turns, or not
+  pub yexp-0 : after h (expand 0) (chipAt 54 50) .sprites .flip ≡ 0xFF
+  pub yexp-1 : after h (expand 1) (chipAt 54 50) .sprites .flip ≡ 0xFE
+  -- DEN, as line 0x30 begins: it is latched, or not
+  pub den-1 : after h (place-controls 0x10 0 0) (chipAt 63 0x2F) .frame .latch ≡ true
+  pub den-0 : after h (place-controls 0x00 0 0) (chipAt 63 0x2F) .frame .latch ≡ false
+  -- RSEL, in every cycle: the beam has it
+  pub rsel-1 : after h (place-controls 0x18 0 0) (chipAt 11 100) .beam .rsel ≡ true
+  pub rsel-0 : after h (place-controls 0x10 0 0) (chipAt 11 100) .beam .rsel ≡ false
+
+-- And so are the legal values and the accepted states: one of two calls, or of two chips, is refused where the other is not
+pub record Refused : Type 0 where
+  -- the bank
+  pub bank-3 : done (tick (filled 0 3)) (chipAt 11 100) .refused ≡ 0
+  pub bank-4 : done (tick (filled 0 4)) (chipAt 11 100) .refused ≡ 2
+  -- the forced clock, of a chip and of a call
+  pub accepted-0 : done (tick (filled 0 0)) (chipForced (pos 0) 11 100) .refused ≡ 0
+  pub accepted-below : done (tick (filled 0 0)) (chipForced (negsuc 0) 11 100) .refused ≡ 3
+  pub forced-0 : done (place-display false false false false (pos 0)) (chipAt 11 100) .refused ≡ 0
+  pub forced-below : done (place-display false false false false (negsuc 0)) (chipAt 11 100) .refused ≡ 6
+
+seen : {A : Type 0} (see : Side → A) (h : Host) (x : Call) (c : Chip) → lentRefusal h ≡ 0 → accepted (done x c .chip) ≡ true → tickable (done x c .chip .side .bus .clock) ≡ true
+    → see (after h x c) ≡ see (turned (timed (done x c .chip .regs)) (done x c .chip .side) .side)
+unfolding done
+seen see h x c l e t = ap see (ap (λ (r : Answer). r .chip .side) (tick-taken h (done x c .chip) l e t) ∙ tick-side h (done x c .chip))
+
+pub needed : (h : Host) → lentRefusal h ≡ 0 → Needed h
+unfolding done registerWritten expandAt controlsPlaced timed accepted aecFine clockFine tickable placeFine fineTest vmliLimit turned hasBit withBit withoutBit pick latch written asked settled triggered irqWritten happens pointerTime dataTime maskAt badLine baOutput nextCycle atLastLine nextLine Borders.right38 Sprites.allFresh Sprites.fresh Sprites.spriteAt Sprites.upTo Sprites.begun Sprites.startOne Sprites.started Sprites.firstPhased Sprites.clearAfter Sprites.flipAfter Sprites.expandWritten Buses.fresh Buses.spriteAsks Buses.requested Buses.arbitrated rasterBegun frameBegun frameEnded raised freshRows Phases.beginAt Phases.left40At Phases.left38At Phases.right38At Phases.right40At Phases.rememberAt Phases.endAt Phases.bordered Phases.stepAt Phases.firstAt Phases.secondAt Phases.loadAt Phases.phased Phases.slotMoved
+needed h l =
+    record {
+      yscroll-0 = seen (λ (s : Side). s .bus .balow) h (place-controls 0x10 0 0) (chipAt 11 0x30) l refl refl;
+      yscroll-1 = seen (λ (s : Side). s .bus .balow) h (place-controls 0x11 0 0) (chipAt 11 0x30) l refl refl;
+      y-100 = seen (λ (s : Side). s .sprites .dma) h (write 0x01 100) (chipAt 54 100) l refl refl;
+      y-101 = seen (λ (s : Side). s .sprites .dma) h (write 0x01 101) (chipAt 54 100) l refl refl;
+      enable-1 = seen (λ (s : Side). s .sprites .dma) h (write 0x15 1) (chipAt 54 100) l refl refl;
+      enable-0 = seen (λ (s : Side). s .sprites .dma) h (write 0x15 0) (chipAt 54 100) l refl refl;
+      csel-0 = seen (λ (s : Side). s .border .main) h (place-controls 0x10 0x00 0) (chipAt 55 100) l refl refl;
+      csel-1 = seen (λ (s : Side). s .border .main) h (place-controls 0x10 0x08 0) (chipAt 55 100) l refl refl;
+      compare-101 = seen (λ (s : Side). s .irq .flags) h (write 0x12 101) (chipAt 63 100) l refl refl;
+      compare-102 = seen (λ (s : Side). s .irq .flags) h (write 0x12 102) (chipAt 63 100) l refl refl;
+      yexp-0 = seen (λ (s : Side). s .sprites .flip) h (expand 0) (chipAt 54 50) l refl refl;
+      yexp-1 = seen (λ (s : Side). s .sprites .flip) h (expand 1) (chipAt 54 50) l refl refl;
+      den-1 = seen (λ (s : Side). s .frame .latch) h (place-controls 0x10 0 0) (chipAt 63 0x2F) l refl refl;
+      den-0 = seen (λ (s : Side). s .frame .latch) h (place-controls 0x00 0 0) (chipAt 63 0x2F) l refl refl;
+      rsel-1 = seen (λ (s : Side). s .beam .rsel) h (place-controls 0x18 0 0) (chipAt 11 100) l refl refl;
+      rsel-0 = seen (λ (s : Side). s .beam .rsel) h (place-controls 0x10 0 0) (chipAt 11 100) l refl refl;
+    }
+
+pub refused : Refused
+unfolding done displayPlaced accepted aecFine clockFine tickable placeFine fineTest vmliLimit pick happens Sprites.allFresh Sprites.fresh Sprites.spriteAt Buses.fresh freshRows
+refused =
+    record {
+      bank-3 = ap number (tick-taken (filled 0 3) (chipAt 11 100) (filled-high 0) refl refl);
+      bank-4 = ap number (tick-bank (filled 0 4) (chipAt 11 100) (filled-above 0));
+      accepted-0 = ap number (tick-taken (filled 0 0) (chipAt 11 100) (filled-low 0) refl refl);
+      accepted-below = ap number (tick-unaccepted (filled 0 0) (chipForced (negsuc 0) 11 100) (filled-low 0) refl);
+      forced-0 = refl;
+      forced-below = refl;
+    }
+  where
+    number : Answer → ℕ
+    number r = r .refused
