@@ -1,0 +1,4 @@
+pub mod Step
+pub mod File
+pub mod Cursor
+pub mod Block
