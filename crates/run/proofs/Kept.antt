@@ -1,0 +1,33 @@
+-- A step that is refused leaves the chip and the bank as they were. Assumes nothing.
+use Prim.Native.Nat.{ℕ}
+use mathlib.Core.Path.{_≡_, refl}
+use mathlib.Core.Bool.{Bool, true, false, cond}
+use lib.Dec.{eqb, ltb}
+use Rattle.script.specs.declared.Step.{Step}
+use Rattle.script.specs.declared.Step.the-variants as step
+use Rattle.sequencer.specs.declared.Chip.{Chip}
+use Rattle.sequencer.specs.Accept.{accepted, clockFine}
+use Rattle.sequencer.specs.Chip.{Host}
+use Rattle.sequencer.specs.Tick.{answer, ticked, tickRefusal}
+use Rattle.sequencer.specs.Calls.{controlsPlaced, displayPlaced, lateTaken}
+use Rattle.run.specs.Run.{doneOf}
+
+-- a call that takes the chip or hands it back
+taken-or : (b : Bool) (n : ℕ) (x c : Chip) → ((cond b (answer 0 x) (answer n c)) .refused ≡ 0 → ⊥) → (cond b (answer 0 x) (answer n c)) .chip ≡ c
+taken-or true n x c h = absurd (h refl)
+taken-or false n x c h = refl
+
+or-taken : (b : Bool) (n : ℕ) (x c : Chip) → ((cond b (answer n c) (answer 0 x)) .refused ≡ 0 → ⊥) → (cond b (answer n c) (answer 0 x)) .chip ≡ c
+or-taken true n x c h = refl
+or-taken false n x c h = absurd (h refl)
+
+pub refused-keeps : (h : Host) (c : Chip) (s : Step) → (doneOf h c s .refused ≡ 0 → ⊥) → (doneOf h c s .chip ≡ c) × (doneOf h c s .bank ≡ h .bank)
+unfolding doneOf ticked controlsPlaced displayPlaced lateTaken
+refused-keeps h c step.Tick e = (taken-or (eqb (tickRefusal h c) 0) _ _ c e, refl)
+refused-keeps h c (step.Write address value) e = absurd (e refl)
+refused-keeps h c (step.Expand value) e = absurd (e refl)
+refused-keeps h c (step.Controls ctrl1 ctrl2 compare) e = (or-taken (ltb 511 compare) _ _ c e, refl)
+refused-keeps h c (step.Late value) e = (taken-or (accepted c) _ _ c e, refl)
+refused-keeps h c step.Borders e = absurd (e refl)
+refused-keeps h c (step.Display shown transition access changing) e = (taken-or (clockFine (c .side .bus .clock)) _ _ c e, refl)
+refused-keeps h c (step.Bank bank) e = absurd (e refl)

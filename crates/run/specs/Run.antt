@@ -1,0 +1,32 @@
+-- One step of a run file, on a chip and the bank.
+use Prim.Native.Nat.{ℕ}
+use mathlib.Core.List.{List}
+use Rattle.script.specs.declared.Step.{Step}
+use Rattle.script.specs.declared.Step.the-variants as step
+use Rattle.sequencer.specs.declared.Chip.{Chip}
+use Rattle.sequencer.specs.declared.Answer.{Answer}
+use Rattle.sequencer.specs.Chip.{Host}
+use Rattle.sequencer.specs.Tick.{answer, ticked}
+use Rattle.sequencer.specs.Calls.{registerWritten, expandAt, comparesBy, controlsPlaced, displayPlaced, lateTaken}
+use Rattle.run.specs.declared.Done.{Done}
+
+-- what a call answers, the bank as it was
+abbrev pub fromAnswer : Answer → ℕ → Done
+fromAnswer a bank = record { refused = a .refused; chip = a .chip; bank = bank }
+
+abbrev pub fromChip : Chip → ℕ → Done
+fromChip c bank = record { refused = 0; chip = c; bank = bank }
+
+-- 01, Run file: the kinds, each the call that it stands for
+unfoldable pub doneOf : Host → Chip → Step → Done
+doneOf h c step.Tick = fromAnswer (ticked h c) (h .bank)
+doneOf h c (step.Write address value) = fromChip (registerWritten c address value) (h .bank)
+-- 01, Run file kind 2: at the present cycle
+doneOf h c (step.Expand value) = fromChip (expandAt c value) (h .bank)
+doneOf h c (step.Controls ctrl1 ctrl2 compare) = fromAnswer (controlsPlaced c ctrl1 ctrl2 compare) (h .bank)
+doneOf h c (step.Late value) = fromAnswer (lateTaken c value) (h .bank)
+doneOf h c step.Borders = fromChip (comparesBy c) (h .bank)
+-- 01, Run file kind 6: forced clock is now
+doneOf h c (step.Display display transition access changing) =
+    fromAnswer (displayPlaced c display transition access changing (c .side .bus .clock)) (h .bank)
+doneOf h c (step.Bank bank) = fromChip c bank

@@ -1,0 +1,84 @@
+// A run file's step, done on a chip: one call of the sequencer, or another bank.
+ghost use mathlib.Core.Path.{_≡_};
+ghost use Rattle.sequencer.specs.Chip.{host};
+ghost use Rattle.run.specs.Run.{fromAnswer, fromChip, doneOf};
+ghost use Rattle.sequencer.specs.Calls.{displayPlaced};
+use script::Step;
+use sequencer::Answer;
+use sequencer::Chip;
+
+// The number of the refusal, 0 for none, and the chip and the bank after the step.
+pub struct Done {
+    pub refused: u8,
+    pub chip: Chip,
+    pub bank: u8,
+}
+
+// A call's answer, the bank as it was.
+fn from_answer(answer: Answer, bank: u8) -> Done
+    ensures { λ r. ⌜ r ≡ fromAnswer answer bank ⌝ }
+{
+    let chip = answer.chip;
+    Done {
+        refused: answer.refused,
+        chip,
+        bank,
+    }
+}
+
+// What a call that refuses nothing leaves.
+fn from_chip(chip: Chip, bank: u8) -> Done
+    ensures { λ r. ⌜ r ≡ fromChip chip bank ⌝ }
+{
+    Done {
+        refused: 0,
+        chip,
+        bank,
+    }
+}
+
+// The display states as they are given, the mode forced now.
+fn display(
+    chip: Chip,
+    shown: bool,
+    transition: bool,
+    access: bool,
+    changing: bool,
+    bank: u8,
+) -> Done
+    ensures { λ r. ⌜ r ≡ fromAnswer (displayPlaced chip shown transition access changing (chip .side .bus .clock)) bank ⌝ }
+{
+    let side = chip.side;
+    let bus = side.bus;
+    let answer = sequencer::place_display(chip, shown, transition, access, changing, bus.clock);
+    from_answer(answer, bank)
+}
+
+// One step of a run file on a chip, with the memory that the host lends.
+pub fn step(chip: Chip, bank: u8, step: Step, ram: &[u8], rom: &[u8], colour: &[u8]) -> Done
+    ensures { λ r. ⌜ r ≡ doneOf (host (now (ram .entry)) (now (rom .entry)) (now (colour .entry)) bank) chip step ⌝ }
+{
+    match step {
+        Step::Tick => from_answer(sequencer::tick(chip, ram, rom, colour, bank), bank),
+        Step::Write(address, value) => from_chip(
+            sequencer::write_register(chip, laws::wide(address), value),
+            bank,
+        ),
+        Step::Expand(value) => from_chip(sequencer::write_y_expand(chip, value), bank),
+        Step::Controls(ctrl1, ctrl2, compare) => from_answer(
+            sequencer::place_controls(chip, ctrl1, ctrl2, compare),
+            bank,
+        ),
+        Step::Late(value) => from_answer(sequencer::late_byte(chip, value), bank),
+        Step::Borders => from_chip(sequencer::border_compares(chip), bank),
+        Step::Display(shown, transition, access, changing) => display(
+            chip,
+            shown,
+            transition,
+            access,
+            changing,
+            bank,
+        ),
+        Step::Bank(next) => from_chip(chip, next),
+    }
+}
