@@ -1,0 +1,193 @@
+// Answers saved cases, one after the other: a call, what it is called with and the chip before it go in,
+// the refusal, the answer and the chip after it come out. The format is `Replay`.
+ghost use mathlib.Core.Path.{_≡_};
+ghost use lib.ListN.{length};
+use libc::STDIN_FILENO;
+use libc::STDOUT_FILENO;
+use sequencer::Answer;
+use sequencer::Chip;
+
+// What a call leaves: its refusal, its answer and the chip.
+struct Told {
+    refused: u8,
+    value: u16,
+    chip: Chip,
+}
+
+fn plain(chip: Chip) -> Told {
+    Told {
+        refused: 0,
+        value: 0,
+        chip: chip,
+    }
+}
+
+fn judged(answer: Answer) -> Told {
+    let chip = answer.chip;
+    Told {
+        refused: answer.refused,
+        value: 0,
+        chip: chip,
+    }
+}
+
+fn valued(value: u16, chip: Chip) -> Told {
+    Told {
+        refused: 0,
+        value: value,
+        chip: chip,
+    }
+}
+
+fn ticked(chip: Chip, memories: &[u8], bank: u8) -> Told
+    requires { ⌜ length (now memories) ≡ 21504 ⌝ }
+{
+    let ticked = sequencer::tick(
+        chip,
+        &memories[0..16384],
+        &memories[16384..20480],
+        &memories[20480..21504],
+        bank,
+    );
+    judged(ticked)
+}
+
+fn odd(b: u8) -> bool {
+    b % 2 == 1
+}
+
+fn displayed(chip: Chip, a: u8, b: u8, c: u8, d: u8) -> Told {
+    let side = chip.side;
+    let bus = side.bus;
+    judged(sequencer::place_display(chip, odd(a), odd(b), odd(c), odd(d), bus.clock))
+}
+
+fn high_at_phi1(chip: Chip) -> u16 {
+    if sequencer::ba_high_at_phi1(chip) {
+        1
+    } else {
+        0
+    }
+}
+
+fn dma_count(chip: Chip) -> u16 {
+    (sequencer::sprite_count(chip) % 65536) as u16
+}
+
+// One call by its number; any other number is tested before.
+fn perform(chip: Chip, memories: &[u8], call: u8, bank: u8, a: u8, b: u8, c: u8, d: u8) -> Told
+    requires { ⌜ length (now memories) ≡ 21504 ⌝ }
+{
+    if call == 0 {
+        return ticked(chip, memories, bank);
+    }
+    if call == 1 {
+        return plain(sequencer::write_register(chip, a as u16, b));
+    }
+    if call == 2 {
+        return plain(sequencer::write_y_expand(chip, a));
+    }
+    if call == 3 {
+        return judged(sequencer::place_controls(chip, a, b, c as u16 + d as u16 * 256));
+    }
+    if call == 4 {
+        return judged(sequencer::late_byte(chip, a));
+    }
+    if call == 5 {
+        return plain(sequencer::border_compares(chip));
+    }
+    if call == 6 {
+        return displayed(chip, a, b, c, d);
+    }
+    if call == 7 {
+        return valued(sequencer::read_register(chip, a as u16, b, c) as u16, chip);
+    }
+    if call == 8 {
+        return valued(high_at_phi1(chip), chip);
+    }
+    valued(dma_count(chip), chip)
+}
+
+// Writes one answer; false where that fails.
+fn tell(told: Told) -> bool {
+    let chip = told.chip;
+    let head = [
+        told.refused,
+        (told.value % 256) as u8,
+        (told.value / 256) as u8,
+    ];
+    let mut body = [0u8; 308];
+    scene::encode(chip, &mut body);
+    let written = io::write_all(STDOUT_FILENO, &head);
+    if !written {
+        return false;
+    }
+    io::write_all(STDOUT_FILENO, &body)
+}
+
+// Answers one case that is whole; false where the run ends before it.
+fn answer(call: [u8; 6], body: &[u8], memories: &[u8]) -> bool
+    requires { ⌜ length (now memories) ≡ 21504 ⌝ }
+{
+    let decoded = scene::decode(body);
+    let scene = decoded.scene;
+    if !scene {
+        return false;
+    }
+    if 9 < call[0] {
+        return false;
+    }
+    let chip = decoded.chip;
+    let told = perform(
+        chip,
+        memories,
+        call[0],
+        call[1],
+        call[2],
+        call[3],
+        call[4],
+        call[5],
+    );
+    tell(told)
+}
+
+// One case from the input to the output; false where the run ends.
+fn one(memories: &[u8]) -> bool
+    requires { ⌜ length (now memories) ≡ 21504 ⌝ }
+{
+    let mut call = [0u8; 6];
+    let mut body = [0u8; 308];
+    let called = io::read_full(STDIN_FILENO, &mut call);
+    let read = io::read_full(STDIN_FILENO, &mut body);
+    if called != 6 {
+        return false;
+    }
+    if read != 308 {
+        return false;
+    }
+    answer(call, &body, memories)
+}
+
+// A loop has to end, and nothing says that an input does: the turns count down from a number that no run uses up.
+fn all(memories: &[u8])
+    requires { ⌜ length (now memories) ≡ 21504 ⌝ }
+{
+    let mut turns = u64::MAX;
+    while turns > 0 && one(memories) {
+        turns -= 1;
+    }
+}
+
+fn space() -> [u8; 21504]
+    ensures { λ r. ⌜ 21504 ≡ length r ⌝ }
+{
+    [0; 21504]
+}
+
+fn main() {
+    let mut memories = space();
+    let n = io::read_full(STDIN_FILENO, &mut memories);
+    if n == 21504 {
+        all(&memories);
+    }
+}

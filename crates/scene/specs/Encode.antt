@@ -1,0 +1,94 @@
+-- The 308 bytes of a chip, part by part in the order of formats.md.
+use Prim.Native.Nat.{ℕ, zero, suc, _+_, _*_, _/_, _%_}
+use mathlib.Core.Bool.{Bool}
+use mathlib.Core.List.{List, [], _∷_, _++_}
+use lib.IntN.{ℤ}
+use lib.ListN.{getD}
+use Rattle.registers.specs.declared.Irq.{Irq}
+use Rattle.registers.specs.declared.Registers.{Registers}
+use Rattle.timing.specs.declared.Beam.{Beam}
+use Rattle.border.specs.declared.Border.{Border}
+use Rattle.sprites.specs.declared.Sprite.{Sprite}
+use Rattle.sprites.specs.declared.Sprites.{Sprites}
+use Rattle.sprites.specs.Sprites.{spriteAt}
+use Rattle.arbitration.specs.declared.Bus.{Bus}
+use Rattle.side.specs.declared.Frame.{Frame}
+use Rattle.side.specs.declared.Rows.{Rows}
+use Rattle.side.specs.declared.Side.{Side}
+use Rattle.picture.specs.declared.Pen.{Pen}
+use Rattle.sequencer.specs.declared.Picture.{Picture}
+use Rattle.sequencer.specs.declared.Chip.{Chip}
+use Rattle.scene.specs.Numbers.{low, high, longBytes, bits, bitBytes, countByte, flagByte, placeByte}
+
+-- head: 'N' 'P' 'S' and the version; then timing
+abbrev pub headBytes : Beam → List ℕ
+headBytes b =
+    78 ∷ 80 ∷ 83 ∷ 1
+    ∷ low (b .cycle) ∷ high (b .cycle) ∷ low (b .raster) ∷ high (b .raster)
+    ∷ flagByte (b .den) ∷ flagByte (b .rsel) ∷ b .yscroll ∷ flagByte (b .bad) ∷ flagByte (b .rising) ∷ flagByte (b .ba) ∷ []
+
+abbrev pub eight : List ℕ → List ℕ → List ℕ
+eight l rest =
+    getD l 0 0 ∷ getD l 1 0 ∷ getD l 2 0 ∷ getD l 3 0 ∷ getD l 4 0 ∷ getD l 5 0 ∷ getD l 6 0 ∷ getD l 7 0 ∷ rest
+
+abbrev pub registerBytes : Registers → List ℕ
+registerBytes r =
+    eight (r .mx) (eight (r .my) (eight (r .cols)
+    (getD (r .bg) 0 0 ∷ getD (r .bg) 1 0 ∷ getD (r .bg) 2 0 ∷ getD (r .bg) 3 0
+    ∷ r .msbx ∷ r .enable ∷ r .yexp ∷ r .xexp ∷ r .prio ∷ r .multi ∷ r .mc0 ∷ r .mc1
+    ∷ r .ctrl1 ∷ r .ctrl2 ∷ low (r .compare) ∷ high (r .compare) ∷ r .ptrs ∷ r .border ∷ [])))
+
+-- interrupt, border, sprite masks
+abbrev pub maskBytes : Irq → Border → Sprites → List ℕ
+maskBytes i b s =
+    i .flags ∷ i .enable ∷ flagByte (i .line)
+    ∷ flagByte (b .vertical) ∷ flagByte (b .main) ∷ flagByte (b .old) ∷ flagByte (b .disabled)
+    ∷ b .part40 ∷ b .part38 ∷ low (b .top) ∷ high (b .top) ∷ low (b .bottom) ∷ high (b .bottom)
+    ∷ s .flip ∷ s .clear ∷ s .dma ∷ s .prev ∷ s .display ∷ s .vmatch ∷ []
+
+-- a sprite: number, pointer, MC, MC base, DMA flag, word, three bytes
+abbrev pub spriteBytes : Sprite → ℕ → ℕ → ℕ → ℕ → ℕ → List ℕ
+spriteBytes s pointer w b0 b1 b2 =
+    s .number ∷ pointer ∷ s .mc ∷ s .base ∷ flagByte (s .dma)
+    ∷ w % 256 ∷ w / 256 % 256 ∷ w / 65536 % 256 ∷ w / 16777216 % 256 ∷ b0 ∷ b1 ∷ b2 ∷ []
+
+abbrev pub spriteRow : Sprites → Picture → ℕ → List ℕ
+spriteRow s p k =
+    spriteBytes (spriteAt s k) (getD (p .pointers) k 0) (getD (p .words) k 0)
+    (getD (p .bytes) (3 * k) 0) (getD (p .bytes) (3 * k + 1) 0) (getD (p .bytes) (3 * k + 2) 0)
+
+-- the first n sprites
+abbrev pub spriteRows : Sprites → Picture → ℕ → List ℕ
+spriteRows s p zero = []
+spriteRows s p (suc n) = spriteRows s p n ++ spriteRow s p n
+
+-- the first n entries of the matrix line
+abbrev pub entryBytes : List ℕ → ℕ → List ℕ
+entryBytes m zero = []
+entryBytes m (suc n) = entryBytes m n ++ (low (getD m n 0) ∷ high (getD m n 0) ∷ [])
+
+-- the rest, up to the AEC counter, which comes as its byte
+abbrev pub restBytes : Rows → Bus → Bool → Pen → Frame → ℕ → List ℕ
+restBytes r b changed p f aec =
+    low (r .vc) ∷ high (r .vc) ∷ low (r .vcbase) ∷ high (r .vcbase) ∷ r .rc ∷ r .vmli
+    ∷ flagByte (b .balow) ∷ flagByte (b .aeclow) ∷ flagByte changed
+    ∷ flagByte (r .display) ∷ flagByte (r .transition) ∷ flagByte (r .access)
+    ∷ p .mode ∷ p .old ∷ flagByte (p .changing) ∷ low (p .ch) ∷ high (p .ch) ∷ low (p .carry) ∷ high (p .carry) ∷ p .gfx
+    ∷ flagByte (f .latch) ∷ flagByte (f .ending) ∷ flagByte (f .matched) ∷ aec ∷ []
+
+abbrev pub clockBytes : ℤ → List ℕ
+clockBytes z = bitBytes (bits z)
+
+abbrev pub clocksBytes : Bus → ℤ → List ℕ
+clocksBytes b forced = clockBytes (b .fall) ++ clockBytes (b .rise) ++ clockBytes forced ++ clockBytes (b .clock)
+
+unfoldable pub encoded : Chip → List ℕ
+encoded c =
+    headBytes (c .side .beam)
+    ++ registerBytes (c .regs)
+    ++ maskBytes (c .side .irq) (c .side .border) (c .side .sprites)
+    ++ spriteRows (c .side .sprites) (c .picture) 8
+    ++ entryBytes (c .picture .matrix) 40
+    ++ restBytes (c .side .rows) (c .side .bus) (c .side .changed) (c .picture .pen) (c .side .frame) (countByte (c .side .bus .aec))
+    ++ clocksBytes (c .side .bus) (c .picture .pen .forced)
+    ++ (placeByte (c .side .pending) ∷ [])
