@@ -1,5 +1,5 @@
 -- A signed number and its bits, by the complement where it is below zero. Assumes nothing.
-use Prim.Native.Nat.{ℕ, suc, _-_, _<_, _≤_, _^_}
+use Prim.Native.Nat.{ℕ, suc, _-_, _<_, _^_}
 use mathlib.Core.Path.{_≡_, refl, sym, ap, _∙_}
 use mathlib.Core.Bool.{true, false, true≢false, false≢true}
 use native.Mathlib.Omega.{arith}
@@ -9,7 +9,7 @@ use lib.Signed.{ltZ, nonNeg}
 use borrow.Author.Tests.{le-ltb}
 use mir.Syntax.{w8, w64}
 use mir.Val.{SFits, Fits, toZ, ofZ}
-use mir.Facts.{toZ-pos, toZ-ofZ}
+use mir.Facts.{toZ-pos}
 
 not-below-zero : (n : ℕ) → ltb n 0 ≡ false
 not-below-zero n = le-ltb n 0 (omega arith)

@@ -1,5 +1,3 @@
-use mathlib.Core.Path.{_≡_, subst}
-use mathlib.Core.Bool.{true, false}
 use mir.Facts.{toZ-ofZ}
 use Rattle.scene.specs.Numbers.{bits}
 use Rattle.scene.proofs.Signs.{flip-fits64, flip64, plain-fits64, plain64}

@@ -1,5 +1,3 @@
-use mathlib.Core.Path.{_≡_, subst}
-use mathlib.Core.Bool.{true, false}
 use mir.Facts.{toZ-ofZ}
 use Rattle.scene.specs.Numbers.{countByte}
 use Rattle.scene.proofs.Signs.{flip-fits8, flip8, plain-fits8, plain8}
