@@ -267,6 +267,9 @@ pub fn graphics_address(mode: u8, old: u8, ptrs: u8, ch: u16, vc: u16, rc: u8, b
     let was_ecm = old / 4 % 2 == 1;
     let mcm = mode % 2 == 1;
     let plain = plain_address(mode, ptrs, ch, vc, rc);
+    if mode == old {
+        return plain;
+    }
     let after_bmm = bmm_fell(was_bmm & !bmm, ptrs, vc, rc, bank, plain);
     ecm_fell(was_ecm & !ecm, bmm & (!was_bmm | mcm), bank, after_bmm)
 }

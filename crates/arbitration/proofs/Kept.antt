@@ -1,13 +1,15 @@
 -- The AEC counter and the clock keep their bounds, and which field of the bus a step changes. Assumes nothing.
-use Prim.Native.Nat.{zero, suc}
-use mathlib.Core.Path.{_≡_, refl}
-use mathlib.Core.Bool.{Bool}
+use Prim.Native.Nat.{ℕ, zero, suc, _+_}
+use mathlib.Core.Path.{_≡_, refl, sym}
+use mathlib.Core.Bool.{Bool, true, false, not, _||_}
 use native.Mathlib.Omega.{arith}
+use lib.Bits.{and-zero-r}
 use lib.IntN.{ℤ, pos, negsuc}
 use Rattle.laws.specs.Clock.{inRange, canTick}
 use Rattle.laws.proofs.Choice.{either}
+use Rattle.schedule.specs.Requests.{maskAt}
 use Rattle.arbitration.specs.declared.Bus.{Bus}
-use Rattle.arbitration.specs.Bus.{down, Counted, aecAfter, arbitrated, clockOn, clocked, fresh}
+use Rattle.arbitration.specs.Bus.{down, Counted, aecAfter, arbitrated, clockOn, clocked, fresh, spriteAsks, requested}
 
 counted-down : (z : ℤ) → Counted z → Counted (down z)
 counted-down (negsuc n) h = h
@@ -17,6 +19,10 @@ counted-down (pos (suc n)) h = omega arith
 pub aec-kept : (z : ℤ) (asked : Bool) → Counted z → Counted (aecAfter z asked)
 unfolding aecAfter
 aec-kept z asked h = either Counted asked (counted-down z h) (omega arith)
+
+pub clock-on : (n : ℕ) → clockOn (pos n) ≡ pos (n + 2)
+unfolding clockOn
+clock-on n = refl
 
 pub clock-on-range : (z : ℤ) → canTick z → inRange (clockOn z)
 unfolding clockOn
@@ -52,3 +58,12 @@ fresh-aec = omega arith
 pub fresh-clock : inRange (fresh .clock)
 unfolding fresh
 fresh-clock = omega arith
+
+or-false : (b : Bool) → (b || false) ≡ b
+or-false true = refl
+or-false false = refl
+
+-- where no sprite is scheduled, the matrix alone asks
+pub matrix-alone : (ba : Bool) (dma cycle : ℕ) → maskAt cycle ≡ 0 → not ba ≡ requested ba dma cycle
+unfolding requested spriteAsks
+matrix-alone ba dma cycle e = rw (e, and-zero-r dma) (sym (or-false (not ba)))

@@ -1,6 +1,7 @@
 -- What the picture's step leaves as it is: no list changes its length, and the clock of the forced bad line stays. Assumes nothing.
 use Prim.Native.Nat.{ℕ}
 use mathlib.Core.Path.{_≡_, refl, _∙_}
+use mathlib.Core.Bool.{false}
 use mathlib.Core.List.{List}
 use native.Mathlib.Omega.{arith}
 use lib.IntN.{ℤ}
@@ -52,3 +53,9 @@ module _ (p b w : List ℕ) (o : Orders) (ptrs : ℕ) (ram rom : List ℕ) (bank
   slotted-words =
       let Long : Latches → Type 0 = λ x. length (x .words) ≡ length w in
       either Long (o .pointing) refl (either Long (o .fetching) (words-length p b w _ _ _ _ _ _ _ _) refl)
+
+-- a cycle without a slot
+pub no-slot : (p b w : List ℕ) (o : Orders) (ptrs : ℕ) (ram rom : List ℕ) (bank : ℕ)
+    → o .pointing ≡ false → o .fetching ≡ false → _≡_ {A = Latches} (record { pointers = p; bytes = b; words = w }) (slotted p b w o ptrs ram rom bank)
+unfolding slotted
+no-slot p b w o ptrs ram rom bank t u = simp (t, u)

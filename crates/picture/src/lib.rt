@@ -147,6 +147,46 @@ pub fn draw(
     }
 }
 
+// The same where the cycle has no graphics access.
+pub fn draw_dark(
+    pen: Pen,
+    orders: Orders,
+    clock: i64,
+    mode: u8,
+    ptrs: u8,
+    matrix: &mut [u16],
+    ram: &[u8],
+    rom: &[u8],
+    colour: &[u8],
+    bank: u8,
+) -> Pen
+    requires { ⌜ length (now matrix) ≡ 40 ⌝ ∗ ⌜ orders .graphics ≡ Bool.false ⌝ ∗ ⌜ Lent (now ram) (now rom) ⌝ ∗ ⌜ length (now colour) ≡ 1024 ⌝ }
+    ensures { λ r. ⌜ r ≡ penAfter (now (matrix .entry)) orders clock pen mode ptrs (now (ram .entry)) (now (rom .entry)) bank ⌝ ∗ ⌜ now (matrix .exit) ≡ matrixAfter (now (matrix .entry)) orders clock pen ptrs (now (ram .entry)) (now (rom .entry)) (now (colour .entry)) bank ⌝ }
+{
+    let gfx = laws::pick8(schedule::graphics_cleared(orders.cycle), 0, pen.gfx);
+    access::fill(
+        matrix,
+        orders.fills,
+        orders.place,
+        orders.column,
+        ptrs,
+        ram,
+        rom,
+        colour,
+        bank,
+    );
+    let before = laws::pick8(pen.changing, mode, pen.old);
+    Pen {
+        ch: pen.ch,
+        carry: pen.carry,
+        gfx: gfx,
+        mode: mode,
+        old: before,
+        changing: false,
+        forced: pen.forced,
+    }
+}
+
 // The sprite slot of a cycle, if it has one.
 pub fn slot(
     pointers: &mut [u8],

@@ -79,7 +79,7 @@ next : (h : Host) (c d : Chip) (i : ℕ) → ticksFrom h i c ≡ answer 0 d → 
 unfolding ticksFrom
 next h c d i e = rw e
 
-none : (h : Host) (c : Chip) → ticksFrom h 0 c ≡ answer 0 c
+pub none : (h : Host) (c : Chip) → ticksFrom h 0 c ≡ answer 0 c
 unfolding ticksFrom
 none h c = refl
 

@@ -1,5 +1,6 @@
 pub mod Chip
 pub mod Accept
 pub mod Tick
+pub mod Parts
 pub mod Set
 pub mod Calls

@@ -1,14 +1,18 @@
 // The whole chip: power-up, acceptance, the tick and a run of ticks, and every other public call.
 // A call asks nothing of its caller: what it does not take it refuses by number, with the state unchanged.
 ghost use mathlib.Core.Path.{_≡_};
-ghost use mathlib.Core.Bool.{Bool};
-ghost use Prim.Native.Nat.{_<_};
+ghost use mathlib.Core.Bool.{Bool, not};
+ghost use Prim.Native.Nat.{_<_, _≤_};
 ghost use lib.ListN.{length};
 ghost use lib.IntN.{ℤ};
+ghost use Rattle.laws.specs.Clock.{canTick};
+ghost use Rattle.schedule.specs.Diagram.{happens, graphicsAccess};
+ghost use Rattle.timing.specs.Beam.{nextCycle};
 ghost use Rattle.side.specs.Fine.{vmliLimit};
 ghost use Rattle.sequencer.specs.Chip.{host, world, chip, chipOf, powered};
 ghost use Rattle.sequencer.specs.Accept.{aecFine, clockFine, tickable, placeFine, accepted};
 ghost use Rattle.sequencer.specs.Tick.{Ready, Held, tickWorld, lentRefusal, tickRefusal, answer, ticked, ticksFrom};
+ghost use Rattle.sequencer.specs.Parts.{Roomy, Part};
 ghost use Rattle.sequencer.specs.Calls.{registerRead, registerWritten, expandAt, comparesBy, controlsPlaced, displayPlaced, lateAt, lateTaken, phi1, dmaCount};
 use access::Pending;
 use picture::Pen;
@@ -41,6 +45,12 @@ pub struct Answer {
 pub struct Core {
     pub side: Side,
     pub pen: Pen,
+}
+
+// How many ticks a part of a run did, and what it left.
+pub struct Gone {
+    pub done: u64,
+    pub core: Core,
 }
 
 pub struct Ran {
@@ -148,8 +158,8 @@ pub fn is_accepted(chip: Chip) -> bool
 
 // ---- the tick
 
-// One tick over the lent arrays.
-fn inner(
+// One tick over the lent arrays, in a cycle with a graphics access.
+fn inner_lit(
     core: Core,
     regs: Registers,
     matrix: &mut [u16],
@@ -161,7 +171,7 @@ fn inner(
     colour: &[u8],
     bank: u8,
 ) -> Core
-    requires { ⌜ Ready (host (now ram) (now rom) (now colour) bank) (world core (now matrix) (now pointers) (now bytes) (now words)) ⌝ }
+    requires { ⌜ Ready (host (now ram) (now rom) (now colour) bank) (world core (now matrix) (now pointers) (now bytes) (now words)) ⌝ ∗ ⌜ happens graphicsAccess (nextCycle (core .side .beam .cycle)) ≡ Bool.true ⌝ }
     ensures { λ r. ⌜ world r (now (matrix .exit)) (now (pointers .exit)) (now (bytes .exit)) (now (words .exit)) ≡ tickWorld (host (now (ram .entry)) (now (rom .entry)) (now (colour .entry)) bank) regs (world core (now (matrix .entry)) (now (pointers .entry)) (now (bytes .entry)) (now (words .entry))) ⌝ }
 {
     let side0 = core.side;
@@ -171,7 +181,9 @@ fn inner(
     let rsel = registers::rsel(regs.ctrl1);
     let yscroll = registers::yscroll(regs.ctrl1);
     let csel = registers::csel(regs.ctrl2);
-    let turned = side::turn(
+    let enable = regs.enable;
+    let yexp = regs.yexp;
+    let turned = side::turn_lit(
         side0,
         den,
         rsel,
@@ -179,13 +191,12 @@ fn inner(
         csel,
         regs.compare,
         my,
-        regs.enable,
-        regs.yexp,
+        enable,
+        yexp,
     );
     let orders = turned.orders;
     let side = turned.side;
     let bus = side.bus;
-    picture::slot(pointers, bytes, words, orders, regs.ptrs, ram, rom, bank);
     let mode = registers::mode(regs.ctrl1, regs.ctrl2);
     let pen = picture::draw(
         pen0,
@@ -203,6 +214,213 @@ fn inner(
         side: side,
         pen: pen,
     }
+}
+
+// One tick over the lent arrays, in a cycle without one.
+fn inner_dark(
+    core: Core,
+    regs: Registers,
+    matrix: &mut [u16],
+    pointers: &mut [u8],
+    bytes: &mut [u8],
+    words: &mut [u32],
+    ram: &[u8],
+    rom: &[u8],
+    colour: &[u8],
+    bank: u8,
+) -> Core
+    requires { ⌜ Ready (host (now ram) (now rom) (now colour) bank) (world core (now matrix) (now pointers) (now bytes) (now words)) ⌝ ∗ ⌜ happens graphicsAccess (nextCycle (core .side .beam .cycle)) ≡ Bool.false ⌝ }
+    ensures { λ r. ⌜ world r (now (matrix .exit)) (now (pointers .exit)) (now (bytes .exit)) (now (words .exit)) ≡ tickWorld (host (now (ram .entry)) (now (rom .entry)) (now (colour .entry)) bank) regs (world core (now (matrix .entry)) (now (pointers .entry)) (now (bytes .entry)) (now (words .entry))) ⌝ }
+{
+    let side0 = core.side;
+    let pen0 = core.pen;
+    let lines = regs.my;
+    let den = registers::den(regs.ctrl1);
+    let rsel = registers::rsel(regs.ctrl1);
+    let scroll = registers::yscroll(regs.ctrl1);
+    let csel = registers::csel(regs.ctrl2);
+    let turned = side::turn_dark(
+        side0,
+        den,
+        rsel,
+        scroll,
+        csel,
+        regs.compare,
+        lines,
+        regs.enable,
+        regs.yexp,
+    );
+    let orders = turned.orders;
+    let side = turned.side;
+    let bus = side.bus;
+    picture::slot(pointers, bytes, words, orders, regs.ptrs, ram, rom, bank);
+    let mode = registers::mode(regs.ctrl1, regs.ctrl2);
+    let pen = picture::draw_dark(
+        pen0,
+        orders,
+        bus.clock,
+        mode,
+        regs.ptrs,
+        matrix,
+        ram,
+        rom,
+        colour,
+        bank,
+    );
+    Core {
+        side: side,
+        pen: pen,
+    }
+}
+
+// Ticks while each has a graphics access, as far as n and the clock go.
+fn lit_run(
+    core: Core,
+    regs: Registers,
+    matrix: &mut [u16],
+    pointers: &mut [u8],
+    bytes: &mut [u8],
+    words: &mut [u32],
+    ram: &[u8],
+    rom: &[u8],
+    colour: &[u8],
+    bank: u8,
+    n: u64,
+) -> Gone
+    requires { ⌜ Held (host (now ram) (now rom) (now colour) bank) regs (world core (now matrix) (now pointers) (now bytes) (now words)) ⌝ ∗ ⌜ Roomy n (core .side .bus .clock) ⌝ }
+    ensures { λ r. ⌜ Part (host (now (ram .entry)) (now (rom .entry)) (now (colour .entry)) bank) regs n (happens graphicsAccess (nextCycle (core .side .beam .cycle))) (world core (now (matrix .entry)) (now (pointers .entry)) (now (bytes .entry)) (now (words .entry))) (r .done) (world (r .core) (now (matrix .exit)) (now (pointers .exit)) (now (bytes .exit)) (now (words .exit))) ⌝ }
+{
+    let mut now = core;
+    let mut i = 0u64;
+    while i < n {
+        let side = now.side;
+        let beam = side.beam;
+        let lit = side::is_lit(beam.cycle);
+        if !lit {
+            return Gone { done: i, core: now };
+        }
+        now = inner_lit(
+            now,
+            regs,
+            matrix,
+            pointers,
+            bytes,
+            words,
+            ram,
+            rom,
+            colour,
+            bank,
+        );
+        i = i + 1;
+    }
+    Gone { done: i, core: now }
+}
+
+// Ticks while none has one.
+fn dark_run(
+    core: Core,
+    regs: Registers,
+    matrix: &mut [u16],
+    pointers: &mut [u8],
+    bytes: &mut [u8],
+    words: &mut [u32],
+    ram: &[u8],
+    rom: &[u8],
+    colour: &[u8],
+    bank: u8,
+    n: u64,
+) -> Gone
+    requires { ⌜ Held (host (now ram) (now rom) (now colour) bank) regs (world core (now matrix) (now pointers) (now bytes) (now words)) ⌝ ∗ ⌜ Roomy n (core .side .bus .clock) ⌝ }
+    ensures { λ r. ⌜ Part (host (now (ram .entry)) (now (rom .entry)) (now (colour .entry)) bank) regs n (not (happens graphicsAccess (nextCycle (core .side .beam .cycle)))) (world core (now (matrix .entry)) (now (pointers .entry)) (now (bytes .entry)) (now (words .entry))) (r .done) (world (r .core) (now (matrix .exit)) (now (pointers .exit)) (now (bytes .exit)) (now (words .exit))) ⌝ }
+{
+    let mut now = core;
+    let mut i = 0u64;
+    while i < n {
+        let side = now.side;
+        let beam = side.beam;
+        let lit = side::is_lit(beam.cycle);
+        if lit {
+            return Gone { done: i, core: now };
+        }
+        now = inner_dark(
+            now,
+            regs,
+            matrix,
+            pointers,
+            bytes,
+            words,
+            ram,
+            rom,
+            colour,
+            bank,
+        );
+        i = i + 1;
+    }
+    Gone { done: i, core: now }
+}
+
+// Ticks of one part of a line.
+fn stage(
+    core: Core,
+    regs: Registers,
+    matrix: &mut [u16],
+    pointers: &mut [u8],
+    bytes: &mut [u8],
+    words: &mut [u32],
+    ram: &[u8],
+    rom: &[u8],
+    colour: &[u8],
+    bank: u8,
+    n: u64,
+) -> Gone
+    requires { ⌜ Held (host (now ram) (now rom) (now colour) bank) regs (world core (now matrix) (now pointers) (now bytes) (now words)) ⌝ ∗ ⌜ Roomy n (core .side .bus .clock) ⌝ }
+    ensures { λ r. ⌜ Part (host (now (ram .entry)) (now (rom .entry)) (now (colour .entry)) bank) regs n Bool.true (world core (now (matrix .entry)) (now (pointers .entry)) (now (bytes .entry)) (now (words .entry))) (r .done) (world (r .core) (now (matrix .exit)) (now (pointers .exit)) (now (bytes .exit)) (now (words .exit))) ⌝ }
+{
+    let side = core.side;
+    let beam = side.beam;
+    let lit = side::is_lit(beam.cycle);
+    if lit {
+        return lit_run(
+            core,
+            regs,
+            matrix,
+            pointers,
+            bytes,
+            words,
+            ram,
+            rom,
+            colour,
+            bank,
+            n,
+        );
+    }
+    dark_run(
+        core,
+        regs,
+        matrix,
+        pointers,
+        bytes,
+        words,
+        ram,
+        rom,
+        colour,
+        bank,
+        n,
+    )
+}
+
+// How many ticks a part of a run may do at most: all of them are ones that the clock takes.
+fn fitting(n: u64, clock: i64) -> u64
+    requires { ⌜ 0 < n ⌝ ∗ ⌜ canTick clock ⌝ }
+    ensures { λ r. ⌜ 0 < r ⌝ ∗ ⌜ r ≤ n ⌝ ∗ ⌜ Roomy r clock ⌝ }
+{
+    if 4611686018427387776 < clock {
+        return 1;
+    }
+    if n < 63 {
+        return n;
+    }
+    63
 }
 
 // Ticks over the lent arrays, until n are done or the clock can take no more.
@@ -223,8 +441,8 @@ fn run(
     ensures { λ r. ⌜ answer (r .refused) (chipOf regs (world (r .core) (now (matrix .exit)) (now (pointers .exit)) (now (bytes .exit)) (now (words .exit)))) ≡ ticksFrom (host (now (ram .entry)) (now (rom .entry)) (now (colour .entry)) bank) n (chipOf regs (world core (now (matrix .entry)) (now (pointers .entry)) (now (bytes .entry)) (now (words .entry)))) ⌝ }
 {
     let mut now = core;
-    let mut i = 0u64;
-    while i < n {
+    let mut done = 0u64;
+    while done < n {
         let side = now.side;
         let bus = side.bus;
         let can = can_tick(bus.clock);
@@ -234,7 +452,8 @@ fn run(
                 core: now,
             };
         }
-        now = inner(
+        let most = fitting(n - done, bus.clock);
+        let gone = stage(
             now,
             regs,
             matrix,
@@ -245,8 +464,10 @@ fn run(
             rom,
             colour,
             bank,
+            most,
         );
-        i = i + 1;
+        now = gone.core;
+        done = done + gone.done;
     }
     Ran {
         refused: 0,

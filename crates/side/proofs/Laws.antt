@@ -4,9 +4,12 @@ use mathlib.Core.Bool.{Bool, true, false, not}
 use Prim.Native.Nat.{ℕ, _-_, _<_}
 use borrow.Author.Tests.{not-true, not-false}
 use Rattle.laws.proofs.Choice.{picks}
-use Rattle.schedule.specs.Diagram.{happens, vmliCounts}
+use Rattle.schedule.specs.Diagram.{happens, graphicsAccess, vmliCounts}
 use Rattle.schedule.proofs.Laws.{slot-small}
+use Rattle.schedule.proofs.Parts.{lit}
+use Rattle.timing.specs.Beam.{nextCycle}
 use Rattle.side.specs.declared.Side.{Side}
+use Rattle.side.specs.Rows.{rowed}
 use Rattle.side.specs.Turn.{Controls, turned}
 use Rattle.side.specs.Fine.{vmliLimit}
 
@@ -14,6 +17,20 @@ use Rattle.side.specs.Fine.{vmliLimit}
 pub slot-of-eight : (g : Controls) (s : Side) → turned g s .orders .sprite < 8
 unfolding turned
 slot-of-eight g s = slot-small _
+
+-- with a graphics access there is no slot, and without one none is ordered
+module _ (g : Controls) (s : Side) where
+  pub lit-pointing : happens graphicsAccess (nextCycle (s .beam .cycle)) ≡ true → turned g s .orders .pointing ≡ false
+  unfolding turned
+  lit-pointing e = lit _ e .pointing
+
+  pub lit-fetching : happens graphicsAccess (nextCycle (s .beam .cycle)) ≡ true → turned g s .orders .fetching ≡ false
+  unfolding turned
+  lit-fetching e = lit _ e .fetching
+
+  pub dark-graphics : happens graphicsAccess (nextCycle (s .beam .cycle)) ≡ false → turned g s .orders .graphics ≡ false
+  unfolding turned rowed
+  dark-graphics e = e
 
 -- VMLI's limit where it does not count, and where it does
 module _ (cycle : ℕ) {counts : Bool} (e : counts ≡ happens vmliCounts cycle) where

@@ -3,6 +3,9 @@ ghost use mathlib.Core.Path.{_≡_};
 ghost use mathlib.Core.Bool.{Bool};
 ghost use Prim.Native.Nat.{_<_};
 ghost use Rattle.laws.specs.Clock.{inRange};
+ghost use Rattle.schedule.specs.Diagram.{happens, graphicsAccess};
+ghost use Rattle.timing.specs.Beam.{nextCycle};
+ghost use Rattle.arbitration.specs.Bus.{requested};
 ghost use Rattle.side.specs.Frame.{freshFrame, frameBegun, frameEnded, rasterBegun, raised};
 ghost use Rattle.side.specs.Rows.{freshRows, vcAfter, vmliAfter, rcAfter, accessAfter, displayAfter, rowed};
 ghost use Rattle.side.specs.Phases.{beginAt, left40At, left38At, right38At, right40At, rememberAt, endAt, bordered, stepAt, firstAt, secondAt, loadAt, phased, slotMoved};
@@ -210,16 +213,47 @@ fn border_end(b: Border, cycle: u16, raster: u16, den: bool) -> Border
     b
 }
 
-fn border_turn(b: Border, cycle: u16, raster: u16, den: bool, csel: bool) -> Border
+// The left compares, up to cycle 18.
+fn border_left(b: Border, cycle: u16, raster: u16, den: bool, csel: bool) -> Border
+    requires { ⌜ happens graphicsAccess cycle ≡ Bool.true ⌝ }
+    ensures { λ r. ⌜ r ≡ bordered cycle raster den csel b ⌝ }
+{
+    let wide = border_left40(b, cycle, raster, den, csel);
+    let narrow = border_left38(wide, cycle, raster, den, csel);
+    border_remember(narrow, cycle)
+}
+
+fn border_lit(b: Border, cycle: u16, raster: u16, den: bool, csel: bool) -> Border
+    requires { ⌜ happens graphicsAccess cycle ≡ Bool.true ⌝ }
+    ensures { λ r. ⌜ r ≡ bordered cycle raster den csel b ⌝ }
+{
+    let past = 18 < cycle;
+    if past {
+        return b;
+    }
+    border_left(b, cycle, raster, den, csel)
+}
+
+// The compares of a line's ends, in the cycles 1, 56, 57 and 63.
+fn border_ends(b: Border, cycle: u16, raster: u16, den: bool, csel: bool) -> Border
+    requires { ⌜ cycle < 64 ⌝ ∗ ⌜ happens graphicsAccess cycle ≡ Bool.false ⌝ }
     ensures { λ r. ⌜ r ≡ bordered cycle raster den csel b ⌝ }
 {
     let begun = border_begin(b, cycle, raster, den);
-    let wide = border_left40(begun, cycle, raster, den, csel);
-    let narrow = border_left38(wide, cycle, raster, den, csel);
-    let early = border_right38(narrow, cycle, csel);
+    let early = border_right38(begun, cycle, csel);
     let late = border_right40(early, cycle, csel);
-    let kept = border_remember(late, cycle);
-    border_end(kept, cycle, raster, den)
+    border_end(late, cycle, raster, den)
+}
+
+fn border_dark(b: Border, cycle: u16, raster: u16, den: bool, csel: bool) -> Border
+    requires { ⌜ cycle < 64 ⌝ ∗ ⌜ happens graphicsAccess cycle ≡ Bool.false ⌝ }
+    ensures { λ r. ⌜ r ≡ bordered cycle raster den csel b ⌝ }
+{
+    let still = ((2 <= cycle) & (cycle <= 55)) | ((58 <= cycle) & (cycle <= 62));
+    if still {
+        return b;
+    }
+    border_ends(b, cycle, raster, den, csel)
 }
 
 // ---- the sprites' phases, each in its cycle
@@ -260,13 +294,32 @@ fn sprites_load(s: Sprites, cycle: u16, raster: u16, my: [u8; 8], enable: u8) ->
     s
 }
 
-fn sprites_turn(s: Sprites, cycle: u16, raster: u16, my: [u8; 8], enable: u8, yexp: u8) -> Sprites
+fn sprites_lit(s: Sprites, cycle: u16, raster: u16, my: [u8; 8], enable: u8, yexp: u8) -> Sprites
+    requires { ⌜ happens graphicsAccess cycle ≡ Bool.true ⌝ }
     ensures { λ r. ⌜ r ≡ phased cycle raster my enable yexp s ⌝ }
 {
     let stepped = sprites_step(s, cycle);
-    let first = sprites_first(stepped, cycle, raster, my, enable, yexp);
-    let second = sprites_second(first, cycle, raster, my, enable, yexp);
+    sprites_first(stepped, cycle, raster, my, enable, yexp)
+}
+
+// The phases of a line's end, in the cycles 56 and 58.
+fn sprites_ends(s: Sprites, cycle: u16, raster: u16, my: [u8; 8], enable: u8, yexp: u8) -> Sprites
+    requires { ⌜ cycle < 64 ⌝ ∗ ⌜ happens graphicsAccess cycle ≡ Bool.false ⌝ }
+    ensures { λ r. ⌜ r ≡ phased cycle raster my enable yexp s ⌝ }
+{
+    let second = sprites_second(s, cycle, raster, my, enable, yexp);
     sprites_load(second, cycle, raster, my, enable)
+}
+
+fn sprites_dark(s: Sprites, cycle: u16, raster: u16, my: [u8; 8], enable: u8, yexp: u8) -> Sprites
+    requires { ⌜ cycle < 64 ⌝ ∗ ⌜ happens graphicsAccess cycle ≡ Bool.false ⌝ }
+    ensures { λ r. ⌜ r ≡ phased cycle raster my enable yexp s ⌝ }
+{
+    let still = (cycle <= 15) | (59 <= cycle);
+    if still {
+        return s;
+    }
+    sprites_ends(s, cycle, raster, my, enable, yexp)
 }
 
 // The slot of this cycle moves its sprite's MC on: one byte beside the pointer, two in the data slot.
@@ -281,6 +334,18 @@ fn sprites_slot(s: Sprites, cycle: u16, k: usize) -> Sprites
         return s.fetch(k, 2);
     }
     s
+}
+
+// The request of a cycle with a graphics access: no sprite asks before the last one.
+fn asked_lit(ba: bool, dma: u8, cycle: u16) -> bool
+    requires { ⌜ happens graphicsAccess cycle ≡ Bool.true ⌝ }
+    ensures { λ r. ⌜ r ≡ requested ba dma cycle ⌝ }
+{
+    let before = cycle < 55;
+    if before {
+        return !ba;
+    }
+    arbitration::request(ba, dma, cycle)
 }
 
 // ---- the row counters
@@ -390,6 +455,68 @@ fn rows_turn(rows: Rows, cycle: u16, bad: bool, rising: bool, wraps: bool) -> Ro
     }
 }
 
+// A cycle with a graphics access: nothing is loaded and no row ends.
+fn rows_lit(rows: Rows, cycle: u16, bad: bool, rising: bool) -> Rowed
+    requires { ⌜ happens graphicsAccess cycle ≡ Bool.true ⌝ }
+    ensures { λ r. ⌜ r ≡ rowed cycle bad rising Bool.false rows ⌝ }
+{
+    let over = schedule::access_ends(cycle);
+    let access = rows.access & !over;
+    let display = rows.display | rising;
+    let moves = display & !rows.transition;
+    let next_vc = vc_after(moves, rows.vc);
+    let next_vmli = vmli_after(moves, rows.vmli);
+    let next = Rows {
+        vc: next_vc,
+        vcbase: rows.vcbase,
+        rc: rows.rc,
+        vmli: next_vmli,
+        display: display,
+        transition: false,
+        access: access,
+    };
+    Rowed {
+        rows: next,
+        vc: rows.vc,
+        vmli: rows.vmli,
+        rc: rows.rc,
+        graphics: true,
+        moves: moves,
+        waiting: rows.transition,
+        fetches: access,
+    }
+}
+
+// In most cycles without a graphics access no counter moves.
+fn rows_dark(rows: Rows, cycle: u16, bad: bool, rising: bool, wraps: bool) -> Rowed
+    requires { ⌜ cycle < 64 ⌝ }
+    ensures { λ r. ⌜ r ≡ rowed cycle bad rising wraps rows ⌝ }
+{
+    let still = !wraps & (((3 <= cycle) & (cycle <= 13)) | (59 <= cycle));
+    if still {
+        let next = Rows {
+            vc: rows.vc,
+            vcbase: rows.vcbase,
+            rc: rows.rc,
+            vmli: rows.vmli,
+            display: rows.display | rising,
+            transition: rows.transition,
+            access: rows.access,
+        };
+        return Rowed {
+            rows: next,
+            vc: rows.vc,
+            vmli: rows.vmli,
+            rc: rows.rc,
+            graphics: false,
+            moves: false,
+            waiting: rows.transition,
+            fetches: false,
+        };
+    }
+    rows_turn(rows, cycle, bad, rising, wraps)
+}
+
 // ---- the whole step
 
 impl Side {
@@ -417,7 +544,16 @@ impl Side {
     }
 }
 
-pub fn turn(
+// ---- a line's two parts: the cycles with a graphics access, and the others
+
+// Whether the next tick has a graphics access.
+pub fn is_lit(cycle: u16) -> bool
+    ensures { λ r. ⌜ r ≡ happens graphicsAccess (nextCycle cycle) ⌝ }
+{
+    schedule::graphics_access(timing::next_cycle(cycle))
+}
+
+pub fn turn_lit(
     side: Side,
     den: bool,
     rsel: bool,
@@ -428,7 +564,7 @@ pub fn turn(
     enable: u8,
     yexp: u8,
 ) -> Turned
-    requires { ⌜ inRange (side .bus .clock) ⌝ }
+    requires { ⌜ inRange (side .bus .clock) ⌝ ∗ ⌜ happens graphicsAccess (nextCycle (side .beam .cycle)) ≡ Bool.true ⌝ }
     ensures { λ r. ⌜ r ≡ turned (controls den rsel yscroll csel compare my enable yexp) side ⌝ }
 {
     let beam0 = side.beam;
@@ -438,6 +574,91 @@ pub fn turn(
     let sprites0 = side.sprites;
     let rows0 = side.rows;
     let pending0 = side.pending;
+    let bus0 = side.bus;
+    let clocked = bus0.clocked();
+    let cycle = timing::next_cycle(beam0.cycle);
+    let raster = beam0.raster;
+    let bad = timing::bad_line(raster, yscroll, frame0.latch);
+    let border = border_lit(border0, cycle, raster, den, csel);
+    let phased = sprites_lit(sprites0, cycle, raster, my, enable, yexp);
+    let ba = timing::ba_output(bad, cycle);
+    let asked = asked_lit(ba, phased.dma, cycle);
+    let bus = clocked.arbitrate(asked);
+    let sprite = phased.at(0);
+    let mask = laws::has_bit(phased.dma, 0);
+    let rising = bad & !beam0.bad;
+    let rowed = rows_lit(rows0, cycle, bad, rising);
+    let rows = rowed.rows;
+    let pending = access::next_pending(rowed.fetches & !bus.aeclow, rows.vmli, pending0);
+    let beam = Beam {
+        cycle: cycle,
+        raster: raster,
+        den: den,
+        rsel: rsel,
+        yscroll: yscroll,
+        bad: bad,
+        rising: rising,
+        ba: ba,
+    };
+    let orders = Orders {
+        cycle: cycle,
+        graphics: rowed.graphics,
+        moves: rowed.moves,
+        waiting: rowed.waiting,
+        plain: bad | (rowed.rc != 0),
+        hidden: border.disabled,
+        vc: rowed.vc,
+        vmli: rowed.vmli,
+        rc: rowed.rc,
+        fills: rowed.fetches & bus.aeclow,
+        place: rows.vmli,
+        column: rows.vc,
+        sprite: 0,
+        pointing: false,
+        fetching: false,
+        mask: mask,
+        flag: sprite.dma,
+        mc: sprite.mc,
+        low: bus0.aeclow,
+    };
+    let next = Side {
+        irq: irq0,
+        beam: beam,
+        frame: frame0,
+        border: border,
+        sprites: phased,
+        bus: bus,
+        rows: rows,
+        pending: pending,
+        changed: irq0.line,
+    };
+    Turned {
+        side: next,
+        orders: orders,
+    }
+}
+
+pub fn turn_dark(
+    side: Side,
+    den: bool,
+    rsel: bool,
+    yscroll: u8,
+    csel: bool,
+    compare: u16,
+    my: [u8; 8],
+    enable: u8,
+    yexp: u8,
+) -> Turned
+    requires { ⌜ inRange (side .bus .clock) ⌝ ∗ ⌜ happens graphicsAccess (nextCycle (side .beam .cycle)) ≡ Bool.false ⌝ }
+    ensures { λ r. ⌜ r ≡ turned (controls den rsel yscroll csel compare my enable yexp) side ⌝ }
+{
+    let beam0 = side.beam;
+    let frame0 = side.frame;
+    let irq0 = side.irq;
+    let border0 = side.border;
+    let sprites0 = side.sprites;
+    let rows0 = side.rows;
+    let earlier = side.pending;
     let bus0 = side.bus;
     let clocked = bus0.clocked();
     let cycle = timing::next_cycle(beam0.cycle);
@@ -453,8 +674,8 @@ pub fn turn(
         irq0,
         (frame1.matched & !frame0.matched) | (wraps & (compare == 0)),
     );
-    let border = border_turn(border0, cycle, raster, den, csel);
-    let phased = sprites_turn(sprites0, cycle, raster, my, enable, yexp);
+    let border = border_dark(border0, cycle, raster, den, csel);
+    let phased = sprites_dark(sprites0, cycle, raster, my, enable, yexp);
     let ba = timing::ba_output(bad, cycle);
     let asked = arbitration::request(ba, phased.dma, cycle);
     let bus = clocked.arbitrate(asked);
@@ -467,9 +688,9 @@ pub fn turn(
     let pointing = schedule::pointer_time(cycle);
     let fetching = schedule::data_time(cycle);
     let rising = bad & !beam0.bad;
-    let rowed = rows_turn(rows0, cycle, bad, rising, wraps);
+    let rowed = rows_dark(rows0, cycle, bad, rising, wraps);
     let rows = rowed.rows;
-    let pending = access::next_pending(rowed.fetches & !bus.aeclow, rows.vmli, pending0);
+    let pending = access::next_pending(rowed.fetches & !bus.aeclow, rows.vmli, earlier);
     let beam = Beam {
         cycle: cycle,
         raster: raster,

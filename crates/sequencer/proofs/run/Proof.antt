@@ -1,11 +1,12 @@
-use mathlib.Core.Path.{sym, _∙_}
+use mathlib.Core.Path.{refl, sym, _∙_}
 use Prim.Native.Nat.{_-_}
 use native.Mathlib.Omega.{arith}
 use borrow.Author.Needs.{needs}
 use borrow.Author.Tests.{not-true, not-false}
 use Rattle.laws.proofs.Signs.{back64}
 use Rattle.sequencer.specs.Chip.{host, world}
-use Rattle.sequencer.proofs.Runs.{Going, begun, ready, on, no-more, all-done}
+use Rattle.sequencer.proofs.Runs.{Going, begun, ready, no-more, all-done}
+use Rattle.sequencer.proofs.Staged.{carried}
 use Rattle.sequencer.proofs.run.Statement.{statement}
 use Rattle.sequencer.proofs.run.Tie as tie
 
@@ -40,23 +41,32 @@ returns c =
     let t = rw (back64 (c .before .before .before .before .before .before .loop .now .side .bus .clock) (c .before .before .struct-told .given .0 .1)) at (c .before .can-tick .ensures) in
     no-more (host (c .before .before .before .before .before .before .before .before .before .before .before .before .before .before .args .ram .now) (c .before .before .before .before .before .before .before .before .before .before .before .before .before .before .args .rom .now) (c .before .before .before .before .before .before .before .before .before .before .before .before .before .before .args .colour .now) (c .before .before .before .before .before .before .before .before .before .before .before .before .before .before .args .bank)) (c .before .before .before .before .before .before .before .before .before .before .before .before .before .before .args .regs) (world (c .before .before .before .before .before .before .before .before .before .before .before .before .before .before .args .core) (c .before .before .before .before .before .before .before .before .before .before .before .before .before .before .args .matrix .now) (c .before .before .before .before .before .before .before .before .before .before .before .before .before .before .args .pointers .now) (c .before .before .before .before .before .before .before .before .before .before .before .before .before .before .args .bytes .now) (c .before .before .before .before .before .before .before .before .before .before .before .before .before .before .args .words .now)) (c .before .before .before .before .before .before .before .before .before .before .before .before .before .before .args .n) (c .before .before .before .before .before .before .loop .inv) (c .before .before .before .before .before .loop-test .taken) (sym t ∙ not-true _ (c .if1 .taken))
 
-inner-requires : tie.Need-inner-requires Inv-loop μ-loop
-inner-requires c κs =
-    let t = rw (back64 (c .before .before .before .before .before .before .before .before .before .before .loop .now .side .bus .clock) (c .before .before .before .before .before .before .struct-told .given .0 .1)) at (c .before .before .before .before .before .can-tick .ensures) in
-    ready (c .before .before .before .before .before .before .before .before .before .before .loop .inv .held) (sym t ∙ not-false _ (c .before .before .before .before .if1 .left))
+sub-fitting : tie.Need-sub-fitting Inv-loop μ-loop
+sub-fitting c = omega (arith, c .before .before .before .before .before .loop-test .taken)
 
-add-i : tie.Need-add-i Inv-loop μ-loop
-add-i c = omega (arith, c .before .before .before .before .before .before .before .before .before .before .before .before .before .before .before .before .before .before .before .before .before .before .before .before .before .before .before .fits .n, c .before .before .before .before .before .before .before .before .before .before .before .before .before .before .before .before .before .before .loop-test .taken)
+fitting-requires : tie.Need-fitting-requires Inv-loop μ-loop
+fitting-requires c κs =
+    let z = c .before .before .before .before .before .before .before .loop .now .side .bus .clock in
+    let t = rw (back64 z (c .before .before .before .struct-told .given .0 .1)) at (c .before .before .can-tick .ensures) in
+    let room = ready (c .before .before .before .before .before .before .before .loop .inv .held) (sym t ∙ not-false _ (c .before .if1 .left)) .clock in
+    (omega (arith, c .before .before .before .before .before .before .loop-test .taken), rw (back64 z (c .struct-told2 .given .0 .1)) room)
+
+stage-requires : tie.Need-stage-requires Inv-loop μ-loop
+stage-requires c κs =
+    let back = back64 (c .before .before .before .before .before .before .before .before .before .before .before .before .loop .now .side .bus .clock) (c .before .before .before .before .before .struct-told2 .given .0 .1) in
+    (c .before .before .before .before .before .before .before .before .before .before .before .before .loop .inv .held, rw back at (c .before .before .before .before .fitting .ensures .1 .1))
+
+add-done : tie.Need-add-done Inv-loop μ-loop
+add-done c = omega (arith, c .before .before .before .before .before .before .before .before .before .before .before .before .before .before .before .before .before .before .before .before .before .before .before .before .before .before .before .before .before .before .before .fits .n, c .before .before .before .before .before .before .before .before .before .before .before .before .before .before .before .before .before .before .before .before .before .before .loop-test .taken, c .before .before .before .before .before .before .before .before .before .before .stage .ensures .within, c .before .before .before .before .before .before .before .before .before .before .before .before .before .before .before .fitting .ensures .1 .0)
 
 loop-less : tie.Need-loop-less Inv-loop μ-loop
-loop-less c = omega (arith, c .before .before .before .before .before .before .before .before .before .before .before .before .before .before .before .before .before .before .loop-test .taken)
+loop-less c =
+    let stage = c .before .before .before .before .before .before .before .before .before .before .stage .ensures in
+    let fitting = c .before .before .before .before .before .before .before .before .before .before .before .before .before .before .before .fitting .ensures in
+    omega (arith, c .before .before .before .before .before .before .before .before .before .before .before .before .before .before .before .before .before .before .before .before .before .before .loop-test .taken, stage .moved refl (fitting .0), stage .within, fitting .1 .0)
 
 loop-again : tie.Need-loop-again Inv-loop μ-loop
-loop-again c =
-    let t = rw (back64 (c .before .before .before .before .before .before .before .before .before .before .before .before .before .before .before .before .before .before .before .loop .now .side .bus .clock) (c .before .before .before .before .before .before .before .before .before .before .before .before .before .before .before .struct-told .given .0 .1)) at (c .before .before .before .before .before .before .before .before .before .before .before .before .before .before .can-tick .ensures) in
-    let inner = c .before .before .before .before .before .before .before .before .inner in
-    on (host (c .before .before .before .before .before .before .before .before .before .before .before .before .before .before .before .before .before .before .before .before .before .before .before .before .before .before .before .args .ram .now) (c .before .before .before .before .before .before .before .before .before .before .before .before .before .before .before .before .before .before .before .before .before .before .before .before .before .before .before .args .rom .now) (c .before .before .before .before .before .before .before .before .before .before .before .before .before .before .before .before .before .before .before .before .before .before .before .before .before .before .before .args .colour .now) (c .before .before .before .before .before .before .before .before .before .before .before .before .before .before .before .before .before .before .before .before .before .before .before .before .before .before .before .args .bank)) (c .before .before .before .before .before .before .before .before .before .before .before .before .before .before .before .before .before .before .before .before .before .before .before .before .before .before .before .args .regs) (world (c .before .before .before .before .before .before .before .before .before .before .before .before .before .before .before .before .before .before .before .before .before .before .before .before .before .before .before .args .core) (c .before .before .before .before .before .before .before .before .before .before .before .before .before .before .before .before .before .before .before .before .before .before .before .before .before .before .before .args .matrix .now) (c .before .before .before .before .before .before .before .before .before .before .before .before .before .before .before .before .before .before .before .before .before .before .before .before .before .before .before .args .pointers .now) (c .before .before .before .before .before .before .before .before .before .before .before .before .before .before .before .before .before .before .before .before .before .before .before .before .before .before .before .args .bytes .now) (c .before .before .before .before .before .before .before .before .before .before .before .before .before .before .before .before .before .before .before .before .before .before .before .before .before .before .before .args .words .now)) (c .before .before .before .before .before .before .before .before .before .before .before .before .before .before .before .before .before .before .before .before .before .before .before .before .before .before .before .args .n) (c .before .before .before .before .before .before .before .before .before .before .before .before .before .before .before .before .before .before .before .loop .inv) (c .before .before .before .before .before .before .before .before .before .before .before .before .before .before .before .before .before .before .loop-test .taken) (sym t ∙ not-false _ (c .before .before .before .before .before .before .before .before .before .before .before .before .before .if1 .left)) (inner .ensures)
-    (inner .kept .1 .1 .0) (inner .kept .1 .1 .1 .0) (inner .kept .1 .1 .1 .1 .0) (inner .kept .1 .1 .1 .1 .1 .0)
+loop-again c = carried (c .before .before .before .before .before .before .before .before .before .before .before .before .before .before .before .before .before .before .before .before .before .before .before .loop .inv) (c .before .before .before .before .before .before .before .before .before .before .stage .ensures) (c .before .before .before .before .before .before .before .before .before .before .before .before .before .before .before .fitting .ensures .1 .0) (c .before .before .before .before .before .before .before .before .before .before .before .before .before .before .before .before .before .before .before .before .before .before .loop-test .taken)
 
 same-length-5 : tie.Need-same-length-5 Inv-loop μ-loop
 same-length-5 c = c .before .loop .inv .held .forty ∙ sym (c .before .before .before .before .before .before .before .before .before .pre .forty)
@@ -86,8 +96,10 @@ run-spec =
     same-length-3
     same-length-4
     returns
-    inner-requires
-    add-i
+    sub-fitting
+    fitting-requires
+    stage-requires
+    add-done
     loop-less
     loop-again
     same-length-5

@@ -1,9 +1,10 @@
 use Rattle.schedule.proofs.Laws.{slot-small}
 use Rattle.side.specs.Turn.{controls}
 use Rattle.side.proofs.Glue.{turn-glue}
+use Rattle.side.proofs.Parts.{small}
 use borrow.Author.Needs.{needs}
-use Rattle.side.proofs.turn.Statement.{statement}
-use Rattle.side.proofs.turn.Tie as tie
+use Rattle.side.proofs.turn_dark.Statement.{statement}
+use Rattle.side.proofs.turn_dark.Tie as tie
 
 clocked-requires : tie.Need-clocked-requires
 clocked-requires c κs = search needs
@@ -38,11 +39,11 @@ end-requires c κs = search needs
 raise-requires : tie.Need-raise-requires
 raise-requires c κs = search needs
 
-border-turn-requires : tie.Need-border-turn-requires
-border-turn-requires c κs = search needs
+border-dark-requires : tie.Need-border-dark-requires
+border-dark-requires c κs = (rw (c .before .before .before .before .before .before .before .before .before .before .before .before .next-cycle .ensures) (small _), rw (c .before .before .before .before .before .before .before .before .before .before .before .before .next-cycle .ensures) (c .before .before .before .before .before .before .before .before .before .before .before .before .before .before .before .before .before .before .before .before .before .pre .1))
 
-sprites-turn-requires : tie.Need-sprites-turn-requires
-sprites-turn-requires c κs = search needs
+sprites-dark-requires : tie.Need-sprites-dark-requires
+sprites-dark-requires c κs = (rw (c .before .before .before .before .before .before .before .before .before .before .before .before .before .next-cycle .ensures) (small _), rw (c .before .before .before .before .before .before .before .before .before .before .before .before .before .next-cycle .ensures) (c .before .before .before .before .before .before .before .before .before .before .before .before .before .before .before .before .before .before .before .before .before .before .pre .1))
 
 ba-output-requires : tie.Need-ba-output-requires
 ba-output-requires c κs = search needs
@@ -77,8 +78,8 @@ pointer-time-requires c κs = search needs
 data-time-requires : tie.Need-data-time-requires
 data-time-requires c κs = search needs
 
-rows-turn-requires : tie.Need-rows-turn-requires
-rows-turn-requires c κs = search needs
+rows-dark-requires : tie.Need-rows-dark-requires
+rows-dark-requires c κs = rw (c .before .before .before .before .before .before .before .before .before .before .before .before .before .before .before .before .before .before .before .before .before .before .before .before .before .before .next-cycle .ensures) (small _)
 
 next-pending-requires : tie.Need-next-pending-requires
 next-pending-requires c κs = search needs
@@ -99,8 +100,8 @@ returns c =
     (c .before .before .before .before .before .before .before .before .before .before .before .before .before .before .before .before .before .before .before .before .before .before .before .before .before .before .pick16 .ensures)
     (c .before .before .before .before .before .before .before .before .before .before .before .before .before .before .before .before .before .before .before .before .before .before .before .before .before .end .ensures)
     (c .before .before .before .before .before .before .before .before .before .before .before .before .before .before .before .before .before .before .before .before .before .before .raise .ensures)
-    (c .before .before .before .before .before .before .before .before .before .before .before .before .before .before .before .before .before .before .before .before .before .border-turn .ensures)
-    (c .before .before .before .before .before .before .before .before .before .before .before .before .before .before .before .before .before .before .before .before .sprites-turn .ensures)
+    (c .before .before .before .before .before .before .before .before .before .before .before .before .before .before .before .before .before .before .before .before .before .border-dark .ensures)
+    (c .before .before .before .before .before .before .before .before .before .before .before .before .before .before .before .before .before .before .before .before .sprites-dark .ensures)
     (c .before .before .before .before .before .before .before .before .before .before .before .before .before .before .before .before .before .before .before .ba-output .ensures)
     (c .before .before .before .before .before .before .before .before .before .before .before .before .before .before .before .before .before .before .request .ensures)
     (c .before .before .before .before .before .before .before .before .before .before .before .before .before .before .before .before .before .arbitrate .ensures)
@@ -112,11 +113,11 @@ returns c =
     (c .before .before .before .before .before .before .before .before .before .before .before .pick-bool .ensures)
     (c .before .before .before .before .before .before .before .before .before .before .pointer-time .ensures)
     (c .before .before .before .before .before .before .before .before .before .data-time .ensures)
-    (c .before .before .before .before .before .before .before .rows-turn .ensures)
+    (c .before .before .before .before .before .before .before .rows-dark .ensures)
     (c .before .before .before .next-pending .ensures)
 
-pub turn-spec : {M : Type 1} → statement M
-turn-spec =
+pub turn-dark-spec : {M : Type 1} → statement M
+turn-dark-spec =
     tie.close
     (tie.spec
     clocked-requires
@@ -130,8 +131,8 @@ turn-spec =
     pick16-requires
     end-requires
     raise-requires
-    border-turn-requires
-    sprites-turn-requires
+    border-dark-requires
+    sprites-dark-requires
     ba-output-requires
     request-requires
     arbitrate-requires
@@ -143,6 +144,6 @@ turn-spec =
     pick-bool-requires
     pointer-time-requires
     data-time-requires
-    rows-turn-requires
+    rows-dark-requires
     next-pending-requires
     returns)

@@ -1,0 +1,81 @@
+use mathlib.Core.Path.{_≡_, ap}
+use mathlib.Core.Bool.{false}
+use Rattle.laws.proofs.Signs.{back64}
+use Rattle.laws.specs.Clock.{inRange}
+use Rattle.arbitration.proofs.Kept.{clock-on-range}
+use Rattle.side.proofs.Laws.{lit-pointing, lit-fetching}
+use Rattle.side.proofs.Kept.{side-clock}
+use Rattle.picture.specs.Pen.{Latches}
+use Rattle.picture.proofs.Laws.{no-slot}
+use Rattle.sequencer.specs.Chip.{host, world}
+use Rattle.sequencer.proofs.Glue.{can-range, tick-glue}
+use borrow.Author.Needs.{needs}
+use Rattle.sequencer.proofs.inner_lit.Statement.{statement}
+use Rattle.sequencer.proofs.inner_lit.Tie as tie
+
+den-requires : tie.Need-den-requires
+den-requires c κs = search needs
+
+rsel-requires : tie.Need-rsel-requires
+rsel-requires c κs = search needs
+
+yscroll-requires : tie.Need-yscroll-requires
+yscroll-requires c κs = search needs
+
+csel-requires : tie.Need-csel-requires
+csel-requires c κs = search needs
+
+turn-lit-requires : tie.Need-turn-lit-requires
+turn-lit-requires c κs =
+    let start = c .before .before .before .before .before .before .before .before .before .before .before .before .before .before in
+    (can-range (start .args .core .side .bus .clock) (start .pre .0 .clock), start .pre .1)
+
+mode-requires : tie.Need-mode-requires
+mode-requires c κs = search needs
+
+draw-requires : tie.Need-draw-requires
+draw-requires c κs =
+    let start = c .before .before .before .before .before .before .before .before .before .before .before .before .before .before .before .before .before .before .before .before .before in
+    let pre = start .pre .0 in
+    let turned = c .before .before .before .before .before .before .turn-lit in
+    let clock : inRange (turned .result .side .bus .clock) = rw (turned .ensures, side-clock) (clock-on-range (start .args .core .side .bus .clock) (pre .clock)) in
+    (pre .forty, ((rw (back64 (turned .result .side .bus .clock) (c .struct-told .given .0 .1)) clock, pre .forced), (pre .lent, pre .colour)))
+
+same-length : tie.Need-same-length
+same-length c = search needs
+
+returns : tie.Need-returns
+returns c =
+    let start = c .before .before .before .before .before .before .before .before .before .before .before .before .before .before .before .before .before .before .before .before .before .before .before .before in
+    let args = start .args in
+    let turned = c .before .before .before .before .before .before .before .before .before .turn-lit in
+    let draw = c .before .before .draw .ensures in
+    let back = back64 (turned .result .side .bus .clock) (c .before .before .before .struct-told .given .0 .1) in
+    let h = host (args .ram .now) (args .rom .now) (args .colour .now) (args .bank) in
+    let w = world (args .core) (args .matrix .now) (args .pointers .now) (args .bytes .now) (args .words .now) in
+    let pointing : turned .result .orders .pointing ≡ false = rw (turned .ensures) (lit-pointing _ _ (start .pre .1)) in
+    let fetching : turned .result .orders .fetching ≡ false = rw (turned .ensures) (lit-fetching _ _ (start .pre .1)) in
+    let none = no-slot (args .pointers .now) (args .bytes .now) (args .words .now) (turned .result .orders) (args .regs .ptrs) (args .ram .now) (args .rom .now) (args .bank) pointing fetching in
+    tick-glue h (args .regs) w
+    (c .before .before .before .before .before .before .before .before .before .before .before .before .before .den .ensures)
+    (c .before .before .before .before .before .before .before .before .before .before .before .before .rsel .ensures)
+    (c .before .before .before .before .before .before .before .before .before .before .before .yscroll .ensures)
+    (c .before .before .before .before .before .before .before .before .before .before .csel .ensures)
+    (turned .ensures)
+    (ap (λ (l : Latches). l .pointers) none) (ap (λ (l : Latches). l .bytes) none) (ap (λ (l : Latches). l .words) none)
+    (c .before .before .before .before .before .mode .ensures)
+    (rw back at (draw .0)) (rw back at (draw .1))
+
+pub inner-lit-spec : {M : Type 1} → statement M
+inner-lit-spec =
+    tie.close
+    (tie.spec
+    den-requires
+    rsel-requires
+    yscroll-requires
+    csel-requires
+    turn-lit-requires
+    mode-requires
+    draw-requires
+    same-length
+    returns)

@@ -1,0 +1,108 @@
+use mathlib.Core.Path.{sym, _∙_}
+use mathlib.Core.Bool.{Bool}
+use Prim.Native.Nat.{ℕ, _-_}
+use native.Mathlib.Omega.{arith}
+use borrow.Author.Needs.{needs}
+use borrow.Author.Tests.{not-true, not-false}
+use Rattle.schedule.specs.Diagram.{happens, graphicsAccess}
+use Rattle.timing.specs.Beam.{nextCycle}
+use Rattle.sequencer.specs.Chip.{host, world}
+use Rattle.sequencer.proofs.Runs.{ready}
+use Rattle.sequencer.proofs.Staged.{Parting, started, tickable-now, further, stopped-at, ended-at}
+use Rattle.sequencer.proofs.lit_run.Statement.{statement}
+use Rattle.sequencer.proofs.lit_run.Tie as tie
+
+abbrev goes : ℕ → Bool
+goes c = happens graphicsAccess (nextCycle c)
+
+abbrev Inv-loop : tie.InvT-loop
+Inv-loop regs matrix₀ pointers₀ bytes₀ words₀ ram rom colour bank n now₀ i₀ matrix pointers bytes words now i =
+    Parting (host ram rom colour bank) regs goes (world now₀ matrix₀ pointers₀ bytes₀ words₀) n (world now matrix pointers bytes words) i
+
+abbrev μ-loop : tie.MeasureT-loop
+μ-loop regs matrix₀ pointers₀ bytes₀ words₀ ram rom colour bank n now₀ i₀ matrix pointers bytes words now i =
+    n - i
+
+loop-holds : tie.Need-loop-holds Inv-loop μ-loop
+loop-holds c =
+    let start = c .before .before .before .before .before .before .before in
+    started (host (start .args .ram .now) (start .args .rom .now) (start .args .colour .now) (start .args .bank)) (start .args .regs) goes (world (start .args .core) (start .args .matrix .now) (start .args .pointers .now) (start .args .bytes .now) (start .args .words .now)) (start .args .n) (start .pre .0) (start .pre .1)
+
+is-lit-requires : tie.Need-is-lit-requires Inv-loop μ-loop
+is-lit-requires c κs = search needs
+
+same-length : tie.Need-same-length Inv-loop μ-loop
+same-length c = c .before .before .before .before .before .loop .inv .going .held .forty ∙ sym (c .before .before .before .before .before .before .before .before .before .before .before .before .before .pre .0 .forty)
+
+same-length-2 : tie.Need-same-length-2 Inv-loop μ-loop
+same-length-2 c = c .before .before .before .before .before .loop .inv .going .held .eight ∙ sym (c .before .before .before .before .before .before .before .before .before .before .before .before .before .pre .0 .eight)
+
+same-length-3 : tie.Need-same-length-3 Inv-loop μ-loop
+same-length-3 c = c .before .before .before .before .before .loop .inv .going .held .threes ∙ sym (c .before .before .before .before .before .before .before .before .before .before .before .before .before .pre .0 .threes)
+
+same-length-4 : tie.Need-same-length-4 Inv-loop μ-loop
+same-length-4 c = c .before .before .before .before .before .loop .inv .going .held .eightWords ∙ sym (c .before .before .before .before .before .before .before .before .before .before .before .before .before .pre .0 .eightWords)
+
+returns : tie.Need-returns Inv-loop μ-loop
+returns c =
+    let start = c .before .before .before .before .before .before .before .before .before .before .before .before .before in
+    stopped-at (host (start .args .ram .now) (start .args .rom .now) (start .args .colour .now) (start .args .bank)) (start .args .regs) goes (world (start .args .core) (start .args .matrix .now) (start .args .pointers .now) (start .args .bytes .now) (start .args .words .now)) (start .args .n) (c .before .before .before .before .before .loop .inv) (sym (c .before .is-lit .ensures) ∙ not-true _ (c .if1 .taken))
+
+inner-lit-requires : tie.Need-inner-lit-requires Inv-loop μ-loop
+inner-lit-requires c κs =
+    let start = c .before .before .before .before .before .before .before .before .before .before .before .before .before .before .before .before .before in
+    let inv = c .before .before .before .before .before .before .before .before .before .loop .inv in
+    (ready (inv .going .held) (tickable-now (host (start .args .ram .now) (start .args .rom .now) (start .args .colour .now) (start .args .bank)) (start .args .regs) goes (world (start .args .core) (start .args .matrix .now) (start .args .pointers .now) (start .args .bytes .now) (start .args .words .now)) (start .args .n) inv (c .before .before .before .before .before .before .before .before .loop-test .taken)), sym (c .before .before .before .before .before .is-lit .ensures) ∙ not-false _ (c .before .before .before .before .if1 .left))
+
+add-i : tie.Need-add-i Inv-loop μ-loop
+add-i c = omega (arith, c .before .before .before .before .before .before .before .before .before .before .before .before .before .before .before .before .before .before .before .before .before .before .before .before .before .before .fits .n, c .before .before .before .before .before .before .before .before .before .before .before .before .before .before .before .before .before .loop-test .taken)
+
+loop-less : tie.Need-loop-less Inv-loop μ-loop
+loop-less c = omega (arith, c .before .before .before .before .before .before .before .before .before .before .before .before .before .before .before .before .before .loop-test .taken)
+
+loop-again : tie.Need-loop-again Inv-loop μ-loop
+loop-again c =
+    let start = c .before .before .before .before .before .before .before .before .before .before .before .before .before .before .before .before .before .before .before .before .before .before .before .before .before .before in
+    let inner = c .before .before .before .before .before .before .before .before .inner-lit in
+    further (host (start .args .ram .now) (start .args .rom .now) (start .args .colour .now) (start .args .bank)) (start .args .regs) goes (world (start .args .core) (start .args .matrix .now) (start .args .pointers .now) (start .args .bytes .now) (start .args .words .now)) (start .args .n) (c .before .before .before .before .before .before .before .before .before .before .before .before .before .before .before .before .before .before .loop .inv) (c .before .before .before .before .before .before .before .before .before .before .before .before .before .before .before .before .before .loop-test .taken) (inner .ensures)
+    (inner .kept .1 .1 .0) (inner .kept .1 .1 .1 .0) (inner .kept .1 .1 .1 .1 .0) (inner .kept .1 .1 .1 .1 .1 .0)
+
+same-length-5 : tie.Need-same-length-5 Inv-loop μ-loop
+same-length-5 c = c .before .loop .inv .going .held .forty ∙ sym (c .before .before .before .before .before .before .before .before .before .pre .0 .forty)
+
+same-length-6 : tie.Need-same-length-6 Inv-loop μ-loop
+same-length-6 c = c .before .loop .inv .going .held .eight ∙ sym (c .before .before .before .before .before .before .before .before .before .pre .0 .eight)
+
+same-length-7 : tie.Need-same-length-7 Inv-loop μ-loop
+same-length-7 c = c .before .loop .inv .going .held .threes ∙ sym (c .before .before .before .before .before .before .before .before .before .pre .0 .threes)
+
+same-length-8 : tie.Need-same-length-8 Inv-loop μ-loop
+same-length-8 c = c .before .loop .inv .going .held .eightWords ∙ sym (c .before .before .before .before .before .before .before .before .before .pre .0 .eightWords)
+
+returns-2 : tie.Need-returns-2 Inv-loop μ-loop
+returns-2 c =
+    let start = c .before .before .before .before .before .before .before .before .before in
+    ended-at (host (start .args .ram .now) (start .args .rom .now) (start .args .colour .now) (start .args .bank)) (start .args .regs) goes (world (start .args .core) (start .args .matrix .now) (start .args .pointers .now) (start .args .bytes .now) (start .args .words .now)) (start .args .n) (c .before .loop .inv) (c .loop-test .left)
+
+pub lit-run-spec : {M : Type 1} → statement M
+lit-run-spec =
+    tie.close
+    (tie.spec
+    Inv-loop
+    μ-loop
+    loop-holds
+    is-lit-requires
+    same-length
+    same-length-2
+    same-length-3
+    same-length-4
+    returns
+    inner-lit-requires
+    add-i
+    loop-less
+    loop-again
+    same-length-5
+    same-length-6
+    same-length-7
+    same-length-8
+    returns-2)

@@ -1,0 +1,19 @@
+use Rattle.schedule.proofs.Parts.{no-request}
+use Rattle.arbitration.proofs.Kept.{matrix-alone}
+use borrow.Author.Needs.{needs}
+use Rattle.side.proofs.asked_lit.Statement.{statement}
+use Rattle.side.proofs.asked_lit.Tie as tie
+
+returns : tie.Need-returns
+returns c =
+    let start = c .before in
+    matrix-alone (start .args .ba) (start .args .dma) (start .args .cycle) (no-request (start .args .cycle) (start .pre) (c .if1 .taken))
+
+request-requires : tie.Need-request-requires
+request-requires c κs = search needs
+
+returns-2 : tie.Need-returns-2
+returns-2 c = search needs
+
+pub asked-lit-spec : {M : Type 1} → statement M
+asked-lit-spec = tie.close (tie.spec returns request-requires returns-2)
