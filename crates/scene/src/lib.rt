@@ -831,6 +831,7 @@ fn put_place(out: &mut [u8], pending: Pending)
 fn fill(chip: Chip, out: &mut [u8])
     requires { ⌜ length (now out) ≡ 308 ⌝ }
     ensures { λ r. ⌜ now (out .exit) ≡ encoded chip ⌝ }
+    ensures { λ r. ⌜ length (now (out .exit)) ≡ 308 ⌝ }
 {
     let regs = chip.regs;
     let side = chip.side;
@@ -853,9 +854,10 @@ fn fill(chip: Chip, out: &mut [u8])
     put_place(out, pending);
 }
 
-// The same over an array, whose length its type tells.
+// The same over an array, whose length its type tells. The second promise follows from the first, and spares a caller who hands the bytes on its proof.
 pub fn encode(chip: Chip, out: &mut [u8; 308])
     ensures { λ r. ⌜ now (out .exit) ≡ encoded chip ⌝ }
+    ensures { λ r. ⌜ length (now (out .exit)) ≡ 308 ⌝ }
 {
     fill(chip, out);
 }
