@@ -30,24 +30,25 @@ scene-exactly s = by-tests (eqb (length s) 308) (fieldsFine s)
     by-tests true false = refl
     by-tests false u = refl
 
-module _ (s : List ℕ) (b : Bytes s) (e : decoded s .scene ≡ true) where
-  both : (eqb (length s) 308 && fieldsFine s) ≡ true
-  both = sym (scene-exactly s) ∙ e
+-- what a scene has passed, and the chip that it holds
+module _ (s : List ℕ) (e : decoded s .scene ≡ true) where
+  passed : (eqb (length s) 308 && fieldsFine s) ≡ true
+  passed = sym (scene-exactly s) ∙ e
 
   size : eqb (length s) 308 ≡ true
-  size = left (eqb (length s) 308) (fieldsFine s) both
+  size = left (eqb (length s) 308) (fieldsFine s) passed
 
   fine : fieldsFine s ≡ true
-  fine = right (eqb (length s) 308) (fieldsFine s) both
+  fine = right (eqb (length s) 308) (fieldsFine s) passed
 
   held : decoded s .chip ≡ chipAt s
   unfolding decoded decodedFields
   held = rw (size, fine)
 
-  -- The bytes of a scene, read and saved again, are the same bytes.
-  pub encode-of-decode : encoded (decoded s .chip) ≡ s
-  encode-of-decode = ap encoded held ∙ chip-again s b fine (eqb-true (length s) 308 size)
+-- The bytes of a scene, read and saved again, are the same bytes.
+pub encode-of-decode : (s : List ℕ) → Bytes s → decoded s .scene ≡ true → encoded (decoded s .chip) ≡ s
+encode-of-decode s b e = ap encoded (held s e) ∙ chip-again s b (fine s e) (eqb-true (length s) 308 (size s e))
 
-  -- What is read from a scene can be saved.
-  pub decoded-is-saved : Saved (decoded s .chip)
-  decoded-is-saved = rw held (chip-saved s b fine)
+-- What is read from a scene can be saved.
+pub decoded-is-saved : (s : List ℕ) → Bytes s → decoded s .scene ≡ true → Saved (decoded s .chip)
+decoded-is-saved s b e = rw (held s e) (chip-saved s b (fine s e))

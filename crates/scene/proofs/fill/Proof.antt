@@ -45,7 +45,7 @@ returns c =
     let rest = c .before .before .before .before .before .before .before .before .before .before .before .put-rest .ensures in
     let clocks = rw (back64 (start .args .chip .picture .pen .forced) (c .before .before .before .before .before .before .before .struct-told .given .1 .1 .1 .1 .1 .1 .0 .1)) at (c .before .before .before .before .before .before .put-clocks .ensures) in
     let place = c .before .before .put-place .ensures in
-    let all = put-both (put-both (put-both (put-both (put-both (put-both (put-both (head) registers) masks) sprites) matrix) rest) clocks) place in
+    let all = put-both (put-both (put-both (put-both (put-both (put-both (put-both head registers) masks) sprites) matrix) rest) clocks) place in
     (put-whole (start .pre) all, all .size ∙ start .pre)
 
 pub fill-spec : {M : Type 1} → statement M
