@@ -1,9 +1,10 @@
 -- The 308 bytes of a chip, part by part in the order of formats.md.
 use Prim.Native.Nat.{ℕ, zero, suc, _+_, _*_, _/_, _%_}
+use mathlib.Core.Path.{_≡_}
 use mathlib.Core.Bool.{Bool}
 use mathlib.Core.List.{List, [], _∷_, _++_}
 use lib.IntN.{ℤ}
-use lib.ListN.{getD}
+use lib.ListN.{length, take, getD}
 use Rattle.registers.specs.declared.Irq.{Irq}
 use Rattle.registers.specs.declared.Registers.{Registers}
 use Rattle.timing.specs.declared.Beam.{Beam}
@@ -76,6 +77,9 @@ restBytes r b changed p f aec =
     ∷ p .mode ∷ p .old ∷ flagByte (p .changing) ∷ low (p .ch) ∷ high (p .ch) ∷ low (p .carry) ∷ high (p .carry) ∷ p .gfx
     ∷ flagByte (f .latch) ∷ flagByte (f .ending) ∷ flagByte (f .matched) ∷ aec ∷ []
 
+abbrev pub restOf : Side → Pen → List ℕ
+restOf s p = restBytes (s .rows) (s .bus) (s .changed) p (s .frame) (countByte (s .bus .aec))
+
 abbrev pub clockBytes : ℤ → List ℕ
 clockBytes z = bitBytes (bits z)
 
@@ -89,6 +93,11 @@ encoded c =
     ++ maskBytes (c .side .irq) (c .side .border) (c .side .sprites)
     ++ spriteRows (c .side .sprites) (c .picture) 8
     ++ entryBytes (c .picture .matrix) 40
-    ++ restBytes (c .side .rows) (c .side .bus) (c .side .changed) (c .picture .pen) (c .side .frame) (countByte (c .side .bus .aec))
+    ++ restOf (c .side) (c .picture .pen)
     ++ clocksBytes (c .side .bus) (c .picture .pen .forced)
     ++ (placeByte (c .side .pending) ∷ [])
+
+-- How a part is written: it stands from `at` to `end` behind what was there, and the whole is as long as before. What lies behind `end` is left open.
+pub record Put (before after : List ℕ) (at end : ℕ) (part : List ℕ) : Type 0 where
+  pub size : length after ≡ length before
+  pub front : take end after ≡ take at before ++ part

@@ -1,12 +1,12 @@
 // A saved chip: its 308 bytes, and the chip that 308 bytes hold. The format is `Scene, version 1`.
 // Every field has a fixed place, numbers lie low byte first, and a flag is 0 or 1.
 ghost use mathlib.Core.Path.{_≡_};
-ghost use mathlib.Core.List.{_∷_, [], _++_};
+ghost use mathlib.Core.List.{_∷_, []};
 ghost use Prim.Native.Nat.{_+_, _*_, _/_, _%_, _≤_, _<_};
-ghost use lib.ListN.{length, take};
-ghost use Rattle.scene.specs.Numbers.{bits, clockOf, countByte, countOf, placeByte, placeOf, wordAt, longAt, clockAt};
+ghost use lib.ListN.{length};
+ghost use Rattle.scene.specs.Numbers.{low, high, bits, clockOf, countByte, countOf, placeByte, placeOf, wordAt, longAt, clockAt};
 ghost use Rattle.scene.specs.Decode.{eightAt, beamAt, registersAt, irqAt, borderAt, spriteAt, spritesAt, pointersAt, wordsAt, spriteBytesAt, matrixAt, rowsAt, busAt, frameAt, penAt, sideAt, pictureAt, chipAt, headFine, earlyFlags, spriteFlags, lateFlags, rangesFine, fieldsFine, noScene, decodedFields, decoded};
-ghost use Rattle.scene.specs.Encode.{headBytes, registerBytes, maskBytes, spriteBytes, spriteRow, restBytes, clockBytes};
+ghost use Rattle.scene.specs.Encode.{headBytes, registerBytes, maskBytes, spriteBytes, spriteRow, spriteRows, entryBytes, restOf, clockBytes, clocksBytes, restBytes, encoded, Put};
 use access::Pending;
 use arbitration::Bus;
 use border::Border;
@@ -697,12 +697,11 @@ fn clock_bytes(x: i64) -> [u8; 8]
     ]
 }
 
-// ---- the bytes of a chip: each part follows the one before it
+// ---- the bytes of a chip: each part follows the one before it, and what stood after it is written later
 
 fn put(out: &mut [u8], at: usize, part: &[u8])
     requires { ⌜ at + length (now part) ≤ length (now out) ⌝ }
-    ensures { λ r. ⌜ length (now (out .exit)) ≡ length (now (out .entry)) ⌝ }
-    ensures { λ r. ⌜ take (at + length (now (part .entry))) (now (out .exit)) ≡ take at (now (out .entry)) ++ now (part .entry) ⌝ }
+    ensures { λ r. ⌜ Put (now (out .entry)) (now (out .exit)) at (at + length (now (part .entry))) (now (part .entry)) ⌝ }
 {
     let mut i = 0usize;
     while i < part.len() {
@@ -731,7 +730,7 @@ fn sprite_row(s: Sprites, p: Picture, k: usize) -> [u8; 12]
 
 fn put_sprite(out: &mut [u8], k: usize, s: Sprites, p: Picture)
     requires { ⌜ k < 8 ⌝ ∗ ⌜ length (now out) ≡ 308 ⌝ }
-    ensures { λ r. ⌜ length (now (out .exit)) ≡ 308 ⌝ }
+    ensures { λ r. ⌜ Put (now (out .entry)) (now (out .exit)) (75 + 12 * k) (75 + 12 * k + 12) (spriteRow s p k) ⌝ }
 {
     let row = sprite_row(s, p, k);
     put(out, 75 + 12 * k, &row);
@@ -739,7 +738,7 @@ fn put_sprite(out: &mut [u8], k: usize, s: Sprites, p: Picture)
 
 fn put_sprites(out: &mut [u8], s: Sprites, p: Picture)
     requires { ⌜ length (now out) ≡ 308 ⌝ }
-    ensures { λ r. ⌜ length (now (out .exit)) ≡ 308 ⌝ }
+    ensures { λ r. ⌜ Put (now (out .entry)) (now (out .exit)) 75 171 (spriteRows s p 8) ⌝ }
 {
     let mut k = 0usize;
     while k < 8 {
@@ -750,7 +749,7 @@ fn put_sprites(out: &mut [u8], s: Sprites, p: Picture)
 
 fn put_word(out: &mut [u8], at: usize, x: u16)
     requires { ⌜ at + 2 ≤ length (now out) ⌝ }
-    ensures { λ r. ⌜ length (now (out .exit)) ≡ length (now (out .entry)) ⌝ }
+    ensures { λ r. ⌜ Put (now (out .entry)) (now (out .exit)) at (at + 2) (low x ∷ high x ∷ []) ⌝ }
 {
     let pair = [(x % 256) as u8, (x / 256) as u8];
     put(out, at, &pair);
@@ -758,7 +757,7 @@ fn put_word(out: &mut [u8], at: usize, x: u16)
 
 fn put_matrix(out: &mut [u8], matrix: [u16; 40])
     requires { ⌜ length (now out) ≡ 308 ⌝ }
-    ensures { λ r. ⌜ length (now (out .exit)) ≡ 308 ⌝ }
+    ensures { λ r. ⌜ Put (now (out .entry)) (now (out .exit)) 171 251 (entryBytes matrix 40) ⌝ }
 {
     let mut k = 0usize;
     while k < 40 {
@@ -767,23 +766,27 @@ fn put_matrix(out: &mut [u8], matrix: [u16; 40])
     }
 }
 
+fn put_clock(out: &mut [u8], at: usize, x: i64)
+    requires { ⌜ at + 8 ≤ length (now out) ⌝ }
+    ensures { λ r. ⌜ Put (now (out .entry)) (now (out .exit)) at (at + 8) (clockBytes x) ⌝ }
+{
+    let part = clock_bytes(x);
+    put(out, at, &part);
+}
+
 fn put_clocks(out: &mut [u8], bus: Bus, forced: i64)
     requires { ⌜ length (now out) ≡ 308 ⌝ }
-    ensures { λ r. ⌜ length (now (out .exit)) ≡ 308 ⌝ }
+    ensures { λ r. ⌜ Put (now (out .entry)) (now (out .exit)) 275 307 (clocksBytes bus forced) ⌝ }
 {
-    let first = clock_bytes(bus.fall);
-    let second = clock_bytes(bus.rise);
-    let third = clock_bytes(forced);
-    let fourth = clock_bytes(bus.clock);
-    put(out, 275, &first);
-    put(out, 283, &second);
-    put(out, 291, &third);
-    put(out, 299, &fourth);
+    put_clock(out, 275, bus.fall);
+    put_clock(out, 283, bus.rise);
+    put_clock(out, 291, forced);
+    put_clock(out, 299, bus.clock);
 }
 
 fn put_head(out: &mut [u8], beam: Beam)
     requires { ⌜ length (now out) ≡ 308 ⌝ }
-    ensures { λ r. ⌜ length (now (out .exit)) ≡ 308 ⌝ }
+    ensures { λ r. ⌜ Put (now (out .entry)) (now (out .exit)) 0 14 (headBytes beam) ⌝ }
 {
     let part = head_bytes(beam);
     put(out, 0, &part);
@@ -791,7 +794,7 @@ fn put_head(out: &mut [u8], beam: Beam)
 
 fn put_registers(out: &mut [u8], regs: Registers)
     requires { ⌜ length (now out) ≡ 308 ⌝ }
-    ensures { λ r. ⌜ length (now (out .exit)) ≡ 308 ⌝ }
+    ensures { λ r. ⌜ Put (now (out .entry)) (now (out .exit)) 14 56 (registerBytes regs) ⌝ }
 {
     let part = register_bytes(regs);
     put(out, 14, &part);
@@ -799,7 +802,7 @@ fn put_registers(out: &mut [u8], regs: Registers)
 
 fn put_masks(out: &mut [u8], irq: Irq, border: Border, sprites: Sprites)
     requires { ⌜ length (now out) ≡ 308 ⌝ }
-    ensures { λ r. ⌜ length (now (out .exit)) ≡ 308 ⌝ }
+    ensures { λ r. ⌜ Put (now (out .entry)) (now (out .exit)) 56 75 (maskBytes irq border sprites) ⌝ }
 {
     let part = mask_bytes(irq, border, sprites);
     put(out, 56, &part);
@@ -807,7 +810,7 @@ fn put_masks(out: &mut [u8], irq: Irq, border: Border, sprites: Sprites)
 
 fn put_rest(out: &mut [u8], s: Side, pen: Pen)
     requires { ⌜ length (now out) ≡ 308 ⌝ }
-    ensures { λ r. ⌜ length (now (out .exit)) ≡ 308 ⌝ }
+    ensures { λ r. ⌜ Put (now (out .entry)) (now (out .exit)) 251 275 (restOf s pen) ⌝ }
 {
     let rows = s.rows;
     let bus = s.bus;
@@ -819,14 +822,15 @@ fn put_rest(out: &mut [u8], s: Side, pen: Pen)
 
 fn put_place(out: &mut [u8], pending: Pending)
     requires { ⌜ length (now out) ≡ 308 ⌝ }
-    ensures { λ r. ⌜ length (now (out .exit)) ≡ 308 ⌝ }
+    ensures { λ r. ⌜ Put (now (out .entry)) (now (out .exit)) 307 308 (placeByte pending ∷ []) ⌝ }
 {
     let part = [place_byte(pending)];
     put(out, 307, &part);
 }
 
-pub fn encode(chip: Chip, out: &mut [u8])
+fn fill(chip: Chip, out: &mut [u8])
     requires { ⌜ length (now out) ≡ 308 ⌝ }
+    ensures { λ r. ⌜ now (out .exit) ≡ encoded chip ⌝ }
     ensures { λ r. ⌜ length (now (out .exit)) ≡ 308 ⌝ }
 {
     let regs = chip.regs;
@@ -848,4 +852,12 @@ pub fn encode(chip: Chip, out: &mut [u8])
     put_rest(out, side, pen);
     put_clocks(out, bus, pen.forced);
     put_place(out, pending);
+}
+
+// The same over an array, whose length its type tells. The second promise follows from the first, and spares a caller who hands the bytes on its proof.
+pub fn encode(chip: Chip, out: &mut [u8; 308])
+    ensures { λ r. ⌜ now (out .exit) ≡ encoded chip ⌝ }
+    ensures { λ r. ⌜ length (now (out .exit)) ≡ 308 ⌝ }
+{
+    fill(chip, out);
 }

@@ -62,12 +62,14 @@ returns c =
     let before = now (at-start .args .out) in
     let part = now (at-start .args .part) in
     let at = at-start .args .at in
-    let whole = le-antisymm (at-loop .loop .inv .1) (c .loop-test .left) in (
-      at-loop .loop .inv .2,
-      ap (take (at + length part)) (at-loop .loop .inv .0 ∙ ap (λ (k : ℕ). paste before at part k) whole)
+    let whole = le-antisymm (at-loop .loop .inv .1) (c .loop-test .left) in
+    record {
+      size = at-loop .loop .inv .2;
+      front =
+          ap (take (at + length part)) (at-loop .loop .inv .0 ∙ ap (λ (k : ℕ). paste before at part k) whole)
           ∙ take-paste before at part (length part) (omega (arith, at-start .pre)) (le-refl (length part))
-          ∙ ap (λ (r : List ℕ). take at before ++ r) (take-length part),
-    )
+          ∙ ap (λ (r : List ℕ). take at before ++ r) (take-length part);
+    }
 
 pub put-spec : {M : Type 1} → statement M
 put-spec =

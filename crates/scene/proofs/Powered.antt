@@ -1,0 +1,40 @@
+-- The chip at power-up can be saved. Assumes nothing.
+use Prim.Native.Nat.{ℕ, zero, suc, _<_}
+use mathlib.Core.Path.{refl}
+use lib.Dec.{lit<}
+use lib.ListN.{getD}
+use Rattle.sprites.specs.Sprites.{allFresh}
+use Rattle.arbitration.specs.Bus as Buses
+use Rattle.side.specs.Turn.{freshSide}
+use Rattle.picture.specs.Pen.{freshPen}
+use Rattle.sequencer.specs.Chip.{powered, zeros}
+use Rattle.scene.specs.Saved.{Saved}
+
+no-word : (n k : ℕ) → getD (zeros n) k 0 < 4294967296
+no-word zero k = lit< tt
+no-word (suc n) zero = lit< tt
+no-word (suc n) (suc k) = no-word n k
+
+pub powered-is-saved : Saved powered
+unfolding powered freshSide freshPen allFresh Buses.fresh
+powered-is-saved =
+    record {
+      mode = lit< tt;
+      old = lit< tt;
+      place = tt;
+      mx = refl;
+      my = refl;
+      cols = refl;
+      bg = refl;
+      each = refl;
+      matrix = refl;
+      pointers = refl;
+      bytes = refl;
+      words = refl;
+      word = no-word 8;
+      aec = record { sfits = lit< tt };
+      fall = record { sfits = lit< tt };
+      rise = record { sfits = lit< tt };
+      forced = record { sfits = lit< tt };
+      clock = record { sfits = lit< tt };
+    }

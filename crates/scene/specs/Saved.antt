@@ -1,0 +1,42 @@
+-- Which chips a scene can hold, and what a list of bytes is.
+use Prim.Native.Nat.{ℕ, _<_}
+use mathlib.Core.Path.{_≡_}
+use mathlib.Core.List.{List}
+use lib.ListN.{length, getD}
+use mir.Syntax.{w8, w64}
+use mir.Val.{SFits}
+use Rattle.access.specs.declared.Pending.{Pending}
+use Rattle.access.specs.declared.Pending.the-variants.{Nothing, At}
+use Rattle.sequencer.specs.declared.Chip.{Chip}
+use Rattle.scene.specs.Numbers.{byteAt}
+
+-- nothing pending, or a place of the matrix line
+abbrev pub OnLine : Pending → Type 0
+OnLine Nothing = Unit
+OnLine (At p) = p < 40
+
+-- Both modes are below 8 and the pending place is on the line. The rest holds of every chip that a program has, by its types: its arrays have their lengths,
+-- a sprite's word fits 32 bits, the AEC counter 8 and a clock 64. (The other numbers come back whatever they are.)
+pub record Saved (c : Chip) : Type 0 where
+  pub mode : c .picture .pen .mode < 8
+  pub old : c .picture .pen .old < 8
+  pub place : OnLine (c .side .pending)
+  pub mx : length (c .regs .mx) ≡ 8
+  pub my : length (c .regs .my) ≡ 8
+  pub cols : length (c .regs .cols) ≡ 8
+  pub bg : length (c .regs .bg) ≡ 4
+  pub each : length (c .side .sprites .each) ≡ 8
+  pub matrix : length (c .picture .matrix) ≡ 40
+  pub pointers : length (c .picture .pointers) ≡ 8
+  pub bytes : length (c .picture .bytes) ≡ 24
+  pub words : length (c .picture .words) ≡ 8
+  pub word : (k : ℕ) → getD (c .picture .words) k 0 < 4294967296
+  pub aec : SFits w8 (c .side .bus .aec)
+  pub fall : SFits w64 (c .side .bus .fall)
+  pub rise : SFits w64 (c .side .bus .rise)
+  pub forced : SFits w64 (c .picture .pen .forced)
+  pub clock : SFits w64 (c .side .bus .clock)
+
+-- every element below 256
+abbrev pub Bytes : List ℕ → Type 0
+Bytes s = (i : ℕ) → byteAt s i < 256
