@@ -87,7 +87,7 @@ fn the_chip_keeps_a_scene() -> bool {
 
 /// Document 01's list, with corners.md, item 15.
 fn power_up() -> bool {
-    let mut expected = State::zero();
+    let mut expected = State::default();
     expected.cycle = 63;
     expected.raster = 311;
     expected.ba_output_high = true;
@@ -218,7 +218,7 @@ fn the_twelve() -> bool {
         && masks
         && crunched.sprites[0].base == 7
         && (ended.sprites[0].base, ended.sprites[0].dma, ended.dma) == (63, false, 0)
-        && (late.matrix[5], late.pending) == (0x07FF, None)
+        && (late.matrix.0[5], late.pending) == (0x07FF, None)
         && (bad_at_58.rc, bad_at_58.displaying) == (0, true)
         && (idle_at_58.rc, idle_at_58.displaying) == (7, false)
 }
