@@ -176,12 +176,18 @@ fn limits() -> Vec<(usize, u8, u8)> {
     std::iter::once(call).chain(scene).collect()
 }
 
-/// Makes a case that is none, each kind in turn: a byte past its values, another head, a cut.
+/// Makes a case that is none, each kind in turn: a byte past its values, another head, a cut. The first two rounds try
+/// the edges.
 fn spoil(r: &mut Rng, limits: &[(usize, u8, u8)], turn: usize, case: &mut Vec<u8>) {
-    match turn % (limits.len() + HEAD.len() + 1) {
+    let kinds = limits.len() + HEAD.len() + 1;
+    match turn % kinds {
         k if k < limits.len() => {
             let (place, low, high) = limits[k];
-            case[place] = r.within(low.into(), high.into()) as u8;
+            case[place] = match turn / kinds {
+                0 => low,
+                1 => high,
+                _ => r.within(low.into(), high.into()) as u8,
+            };
         }
         k if k < limits.len() + HEAD.len() => case[6 + k - limits.len()] ^= r.within(1, 255) as u8,
         _ => case.truncate(r.within(1, CASE as i64 - 1) as usize),
