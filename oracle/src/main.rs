@@ -29,6 +29,7 @@ const USAGE: &str = "usage:
   oracle answer INFILE OUTFILE           answer replay input with the original
   oracle compare-replay IN OURS THEIRS   compare two files of answers
   oracle show INFILE NUMBER              print one case of a replay input
+  oracle fields                          list a scene's fields: place, size, kind, name
   oracle runs SEED COUNT DIR             make run files
   oracle chart < FILE > OUT              chart a run file with the original
   oracle check SEED COUNT                check the original on accepted states
@@ -61,6 +62,13 @@ fn run(arguments: &[&str]) -> io::Result<Option<bool>> {
         ["answer", input, output] => replay::answer(input, output).map(|()| true),
         ["compare-replay", input, ours, theirs] => compare::compare(input, ours, theirs),
         ["show", input, place] => compare::show(input, number(place)?),
+        ["fields"] => {
+            let mut output = BufWriter::new(io::stdout().lock());
+            for field in scene::fields() {
+                writeln!(output, "{:3} {} {} {}", field.offset, field.size, field.kind.word(), field.name)?;
+            }
+            output.flush().map(|()| true)
+        }
         ["runs", seed, count, folder] => runs::make(number(seed)?, number(count)?, folder).map(|()| true),
         ["chart"] => {
             let mut bytes = Vec::new();

@@ -263,6 +263,18 @@ pub enum Kind {
     Place,
 }
 
+impl Kind {
+    pub fn word(self) -> &'static str {
+        match self {
+            Kind::Number => "number",
+            Kind::Signed => "signed",
+            Kind::Flag => "flag",
+            Kind::Mode => "mode",
+            Kind::Place => "place",
+        }
+    }
+}
+
 /// All fields in order, from the byte after the head.
 pub fn fields() -> Vec<Field> {
     let mut names = Names { fields: Vec::new(), at: HEAD.len() };
