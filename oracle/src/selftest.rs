@@ -262,7 +262,7 @@ fn panics(act: impl FnOnce() + panic::UnwindSafe) -> bool {
     stopped
 }
 
-/// docs/DIFFERENCES.md, 13 to 22, each on its smallest input. No replay case can hold most of these: the original is
+/// docs/DIFFERENCES.md, 13 to 15 and 17 to 22, each on its smallest input. No replay case can hold most of these: the original is
 /// asked without acceptance.
 fn the_originals_own() -> bool {
     let found = [
