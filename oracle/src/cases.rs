@@ -4,10 +4,12 @@ use crate::accept::CLOCK_LIMIT;
 use crate::memory::Memory;
 use crate::replay::*;
 use crate::rng::Rng;
-use crate::scene::State;
+use crate::scene::{fields, Kind, State, HEAD};
 use crate::states::*;
 use crate::walk::Walker;
+use std::fs;
 use std::io::{self, Write};
+use std::path::Path;
 
 /// Makes one case after another; ticks go through the 63 cycles in turn, so that each is met alike.
 pub struct Maker {
@@ -146,15 +148,71 @@ fn memory(r: &mut Rng) -> Memory {
     memory
 }
 
+fn lend(memory: &Memory, output: &mut impl Write) -> io::Result<()> {
+    output.write_all(&memory.ram[..])?;
+    output.write_all(&memory.rom[..])?;
+    output.write_all(&memory.colour[..])
+}
+
 pub fn make(seed: u64, count: u64, output: &str) -> io::Result<()> {
     let mut output = create(output)?;
     let mut maker = Maker::new(seed);
-    let memory = maker.memory();
-    output.write_all(&memory.ram[..])?;
-    output.write_all(&memory.rom[..])?;
-    output.write_all(&memory.colour[..])?;
+    lend(maker.memory(), &mut output)?;
     for _ in 0..count {
         output.write_all(&maker.next().encode())?;
     }
     output.flush()
+}
+
+/// The bytes of a case that may not be anything: place, and the values that make it no case.
+fn limits() -> Vec<(usize, u8, u8)> {
+    let call = (0, CALLS.len() as u8, 255);
+    let scene = fields().into_iter().filter_map(|field| match field.kind {
+        Kind::Number | Kind::Signed => None,
+        Kind::Flag => Some((6 + field.offset, 2, 255)),
+        Kind::Mode => Some((6 + field.offset, 8, 255)),
+        Kind::Place => Some((6 + field.offset, 40, 254)),
+    });
+    std::iter::once(call).chain(scene).collect()
+}
+
+/// Makes a case that is none, each kind in turn: a byte past its values, another head, a cut. The first two rounds try
+/// the edges.
+fn spoil(r: &mut Rng, limits: &[(usize, u8, u8)], turn: usize, case: &mut Vec<u8>) {
+    let kinds = limits.len() + HEAD.len() + 1;
+    match turn % kinds {
+        k if k < limits.len() => {
+            let (place, low, high) = limits[k];
+            case[place] = match turn / kinds {
+                0 => low,
+                1 => high,
+                _ => r.within(low.into(), high.into()) as u8,
+            };
+        }
+        k if k < limits.len() + HEAD.len() => case[6 + k - limits.len()] ^= r.within(1, 255) as u8,
+        _ => case.truncate(r.within(1, CASE as i64 - 1) as usize),
+    }
+}
+
+/// Replay inputs that end the run early: a few cases, one that is none, and one more that nobody answers.
+pub fn make_ends(seed: u64, count: u64, folder: &str) -> io::Result<()> {
+    fs::create_dir_all(folder)?;
+    let mut maker = Maker::new(seed);
+    let limits = limits();
+    for number in 0..count {
+        let mut bytes = Vec::new();
+        lend(maker.memory(), &mut bytes)?;
+        for _ in 0..maker.random.below(3) {
+            bytes.extend(maker.next().encode());
+        }
+        let mut case = maker.next().encode().to_vec();
+        spoil(&mut maker.random, &limits, number as usize, &mut case);
+        let cut = case.len() < CASE;
+        bytes.extend(case);
+        if !cut {
+            bytes.extend(maker.next().encode());
+        }
+        fs::write(Path::new(folder).join(format!("{number:05}.bin")), bytes)?;
+    }
+    Ok(())
 }

@@ -7,6 +7,7 @@ mod check;
 mod clockchip;
 mod compare;
 mod memory;
+mod pace;
 mod pla;
 mod replay;
 mod rng;
@@ -17,17 +18,23 @@ mod states;
 mod vic;
 mod walk;
 
+use memory::Memory;
 use std::io::{self, BufWriter, Read, Write};
 use std::process::ExitCode;
+use vic::glue::Machine;
 
 const USAGE: &str = "usage:
   oracle cases SEED COUNT OUTFILE        make replay input
+  oracle ends SEED COUNT DIR             make replay inputs that end early
   oracle answer INFILE OUTFILE           answer replay input with the original
   oracle compare-replay IN OURS THEIRS   compare two files of answers
   oracle show INFILE NUMBER              print one case of a replay input
+  oracle fields                          list a scene's fields: place, size, kind, name
   oracle runs SEED COUNT DIR             make run files
   oracle chart < FILE > OUT              chart a run file with the original
   oracle check SEED COUNT                check the original on accepted states
+  oracle power-up > SCENE                write the scene of a chip at power-up
+  oracle pace < FILE > SCENE             work a scene through steps, for bench/run
   oracle selftest                        check the oracle's own parts";
 
 fn main() -> ExitCode {
@@ -51,9 +58,17 @@ fn main() -> ExitCode {
 fn run(arguments: &[&str]) -> io::Result<Option<bool>> {
     let verdict = match *arguments {
         ["cases", seed, count, output] => cases::make(number(seed)?, number(count)?, output).map(|()| true),
+        ["ends", seed, count, folder] => cases::make_ends(number(seed)?, number(count)?, folder).map(|()| true),
         ["answer", input, output] => replay::answer(input, output).map(|()| true),
         ["compare-replay", input, ours, theirs] => compare::compare(input, ours, theirs),
         ["show", input, place] => compare::show(input, number(place)?),
+        ["fields"] => {
+            let mut output = BufWriter::new(io::stdout().lock());
+            for field in scene::fields() {
+                writeln!(output, "{:3} {} {} {}", field.offset, field.size, field.kind.word(), field.name)?;
+            }
+            output.flush().map(|()| true)
+        }
         ["runs", seed, count, folder] => runs::make(number(seed)?, number(count)?, folder).map(|()| true),
         ["chart"] => {
             let mut bytes = Vec::new();
@@ -61,6 +76,12 @@ fn run(arguments: &[&str]) -> io::Result<Option<bool>> {
             let mut output = BufWriter::new(io::stdout().lock());
             chart::chart(&bytes, &mut output)?;
             output.flush().map(|()| true)
+        }
+        ["power-up"] => io::stdout().write_all(&Machine::new(Memory::new()).state().encode()).map(|()| true),
+        ["pace"] => {
+            let mut bytes = Vec::new();
+            io::stdin().lock().read_to_end(&mut bytes)?;
+            pace::pace(&bytes, &mut io::stdout().lock()).map(|()| true)
         }
         ["check", seed, count] => Ok(check::check(number(seed)?, number(count)?)),
         ["selftest"] => Ok(selftest::selftest()),

@@ -235,7 +235,47 @@ fn game(r: &mut Rng) -> Run {
     run
 }
 
-/// A short run with one fault, each kind in turn.
+/// What is wrong with a damaged run. Sections are 0 RAM, 1 ROM, 2 colour RAM.
+#[derive(Clone, Copy)]
+enum Fault {
+    CutAnywhere,
+    CutInStep,
+    BytesTooMany,
+    AnyByte,
+    /// The section's count, this much above its limit, or as high as can be.
+    Count(usize, Option<u16>),
+    /// An address this much past the section's memory, or as high as can be.
+    Address(usize, Option<u16>),
+    /// An address past its memory in a record that is cut off: 7 comes first.
+    AddressCut,
+    /// A step that is not allowed.
+    Step([u8; 5]),
+    /// A byte of this kind's step that is not used, and not 0.
+    Unused(u8, usize),
+    FirstCountMissing,
+    FrontMissing,
+    StepsMissing,
+}
+
+/// Every fault, so that each comes in its turn.
+fn faults() -> Vec<Fault> {
+    let mut all = vec![Fault::CutAnywhere, Fault::CutInStep, Fault::BytesTooMany, Fault::AnyByte];
+    for section in 0..3 {
+        all.extend([Some(0), Some(1), None].map(|above| Fault::Count(section, above)));
+        all.extend([Some(0), None].map(|past| Fault::Address(section, past)));
+    }
+    all.push(Fault::AddressCut);
+    let steps = [[8, 0, 0, 0, 0], [255, 0, 0, 0, 0], [7, 4, 0, 0, 0], [3, 0x1B, 8, 0, 2], [3, 0x1B, 8, 255, 255]];
+    let displays = [[6, 2, 1, 0, 1], [6, 0, 2, 0, 1], [6, 0, 1, 2, 1], [6, 0, 1, 0, 2], [6, 255, 1, 0, 1]];
+    all.extend(steps.into_iter().chain(displays).map(Fault::Step));
+    for (kind, used) in [(0, 0), (1, 2), (2, 1), (4, 1), (5, 0), (7, 1)] {
+        all.extend((used + 1..=4).map(|place| Fault::Unused(kind, place)));
+    }
+    all.extend([Fault::FirstCountMissing, Fault::FrontMissing, Fault::StepsMissing]);
+    all
+}
+
+/// A short run with one fault, each in turn.
 fn damaged(r: &mut Rng, turn: u64) -> Vec<u8> {
     let mut run = Run { ram: changes(r, RAM, 4), rom: changes(r, ROM, 4), colour: changes(r, COLOUR, 4), ..Run::default() };
     for _ in 0..r.within(1, 40) {
@@ -246,87 +286,67 @@ fn damaged(r: &mut Rng, turn: u64) -> Vec<u8> {
         }
     }
     let step = r.below(run.steps.len() as u64) as usize;
-    match turn % 16 {
-        // Cut anywhere, and in the middle of a step.
-        0 | 1 => {
+    let limits = [RAM as u16, ROM as u16, COLOUR as u16];
+    let all = faults();
+    match all[turn as usize % all.len()] {
+        Fault::CutAnywhere => {
             let mut bytes = run.encode();
             bytes.truncate(r.below(bytes.len() as u64) as usize);
             return bytes;
         }
-        2 => {
+        Fault::CutInStep => {
             let mut bytes = run.encode();
             bytes.truncate(run.steps_at() + 5 * step + r.below(5) as usize);
             return bytes;
         }
-        // Bytes too many.
-        3 => {
+        Fault::BytesTooMany => {
             let mut bytes = run.encode();
             bytes.extend((0..r.within(1, 6)).map(|_| r.byte()));
             return bytes;
         }
-        // Any byte changed.
-        4 | 5 => {
+        Fault::AnyByte => {
             let mut bytes = run.encode();
             let place = r.below(bytes.len() as u64) as usize;
             bytes[place] = r.byte();
             return bytes;
         }
-        // A count above its limit, with nothing after it or with everything.
-        6 => {
-            let (before, limit) = match r.below(3) {
-                0 => (0, RAM),
-                1 => (2 + 3 * run.ram.len(), ROM),
-                _ => (4 + 3 * (run.ram.len() + run.rom.len()), COLOUR),
-            };
+        Fault::Count(section, above) => {
+            let before = [0, 2 + 3 * run.ram.len(), 4 + 3 * (run.ram.len() + run.rom.len())][section];
+            let count = above.map_or(0xFFFF, |above| limits[section] + above);
             let mut bytes = run.encode();
-            let count = r.pick(&[limit as u16, limit as u16 + 1, 0xFFFF]);
             bytes[before..before + 2].copy_from_slice(&count.to_le_bytes());
+            // With nothing after it, or with everything.
             if r.flag() {
                 bytes.truncate(before + 2);
             }
             return bytes;
         }
-        // An address past its memory.
-        7 => match r.below(3) {
-            0 => run.ram.push((r.pick(&[RAM as u16, 0xFFFF]), 1)),
-            1 => run.rom.push((r.pick(&[ROM as u16, 0xFFFF]), 1)),
-            _ => run.colour.push((r.pick(&[COLOUR as u16, 0xFFFF]), 1)),
-        },
-        // The same in a record that is cut off: 7 comes first.
-        8 => {
+        Fault::Address(section, past) => {
+            let address = past.map_or(0xFFFF, |past| limits[section] + past);
+            [&mut run.ram, &mut run.rom, &mut run.colour][section].push((address, 1));
+        }
+        Fault::AddressCut => {
             run.steps.clear();
             run.colour.push((0xFFFF, 1));
             let mut bytes = run.encode();
             bytes.truncate(run.steps_at() - 2 - r.within(1, 2) as usize);
             return bytes;
         }
-        9 => run.steps[step] = [r.pick(&[8, 9, 128, 255]), 0, 0, 0, 0],
-        10 => run.steps[step] = [7, r.pick(&[4, 255]), 0, 0, 0],
-        11 => run.steps[step] = [3, r.byte(), r.byte(), r.byte(), r.pick(&[2, 3, 255])],
-        12 => {
-            let mut fields = [6, 0, 1, 0, 1];
-            fields[r.within(1, 4) as usize] = r.pick(&[2, 255]);
-            run.steps[step] = fields;
-        }
-        // An unused byte that is not 0, for each kind that has one.
-        13 | 14 => {
-            let (kind, used) = r.pick(&[(0, 0), (1, 2), (2, 1), (4, 1), (5, 0), (7, 1)]);
+        Fault::Step(record) => run.steps[step] = record,
+        Fault::Unused(kind, place) => {
             let mut record = [kind, 0, 0, 0, 0];
-            record[r.within(used + 1, 4) as usize] = r.pick(&[1, 255]);
+            record[place] = r.pick(&[1, 255]);
             run.steps[step] = record;
         }
-        // A whole section left out.
-        _ => match r.below(3) {
-            0 => return run.encode().split_off(2),
-            1 => return run.encode().split_off(r.below(9) as usize),
-            _ => {
-                let mut bytes = run.encode();
-                let count = run.steps.len() as u16 + r.within(1, 300) as u16;
-                let place = run.steps_at() - 2;
-                bytes[place..place + 2].copy_from_slice(&count.to_le_bytes());
-                return bytes;
-            }
-        },
+        Fault::FirstCountMissing => return run.encode().split_off(2),
+        Fault::FrontMissing => return run.encode().split_off(r.below(9) as usize),
+        Fault::StepsMissing => {
+            let mut bytes = run.encode();
+            let count = run.steps.len() as u16 + r.within(1, 300) as u16;
+            let place = run.steps_at() - 2;
+            bytes[place..place + 2].copy_from_slice(&count.to_le_bytes());
+            return bytes;
+        }
     }
     run.encode()
 }

@@ -1,7 +1,7 @@
 //! A chip state in plain numbers, and its 308 bytes (formats.md, "Scene, version 1").
 
 pub const SCENE: usize = 308;
-const HEAD: [u8; 4] = [b'N', b'P', b'S', 1];
+pub const HEAD: [u8; 4] = [b'N', b'P', b'S', 1];
 const NOTHING_PENDING: u8 = 255;
 
 #[derive(Clone, Copy, Debug, Default, PartialEq, Eq)]
@@ -15,9 +15,19 @@ pub struct Sprite {
     pub bytes: [u8; 3],
 }
 
-/// Every kept field. Flags whose scene value names a state are true for 1: BA output high,
-/// displaying (0 Idle), entering (0 Stable), accessing (0 off).
+/// The forty entries of the matrix line: an array of this length has no default of its own.
 #[derive(Clone, Debug, PartialEq, Eq)]
+pub struct Matrix(pub [u16; 40]);
+
+impl Default for Matrix {
+    fn default() -> Self {
+        Self([0; 40])
+    }
+}
+
+/// Every kept field. Flags whose scene value names a state are true for 1: BA output high,
+/// displaying (0 Idle), entering (0 Stable), accessing (0 off). The default is all 0, not power-up.
+#[derive(Clone, Debug, Default, PartialEq, Eq)]
 pub struct State {
     pub cycle: u16,
     pub raster: u16,
@@ -67,7 +77,7 @@ pub struct State {
     pub vertical_match: u8,
 
     pub sprites: [Sprite; 8],
-    pub matrix: [u16; 40],
+    pub matrix: Matrix,
 
     pub vc: u16,
     pub vc_base: u16,
@@ -184,7 +194,7 @@ impl State {
             v.byte(("sprite ", Some(k), " byte 1"), &mut sprite.bytes[1]);
             v.byte(("sprite ", Some(k), " byte 2"), &mut sprite.bytes[2]);
         }
-        for (k, field) in self.matrix.iter_mut().enumerate() {
+        for (k, field) in self.matrix.0.iter_mut().enumerate() {
             v.word(("matrix entry ", Some(k), ""), field);
         }
 
@@ -229,84 +239,9 @@ impl State {
             return None;
         }
         let mut reader = Reader { bytes, at: HEAD.len(), sound: true };
-        let mut state = Self::zero();
+        let mut state = Self::default();
         state.visit(&mut reader);
         reader.sound.then_some(state)
-    }
-
-    /// All numbers 0 and all flags clear: not power-up, only somewhere to start from.
-    pub fn zero() -> Self {
-        Self {
-            cycle: 0,
-            raster: 0,
-            den: false,
-            rsel: false,
-            yscroll: 0,
-            bad_line: false,
-            rising_edge: false,
-            ba_output_high: false,
-            x: [0; 8],
-            y: [0; 8],
-            sprite_colours: [0; 8],
-            backgrounds: [0; 4],
-            x_high: 0,
-            enable: 0,
-            y_expand: 0,
-            x_expand: 0,
-            priority: 0,
-            multicolour: 0,
-            multicolour_0: 0,
-            multicolour_1: 0,
-            ctrl1: 0,
-            ctrl2: 0,
-            compare: 0,
-            memory_pointers: 0,
-            border_colour: 0,
-            irq_flags: 0,
-            irq_enable: 0,
-            irq_line: false,
-            vertical_border: false,
-            main_border: false,
-            main_remembered: false,
-            output_disabled: false,
-            part_40: 0,
-            part_38: 0,
-            top: 0,
-            bottom: 0,
-            flip: 0,
-            clear_pending: 0,
-            dma: 0,
-            previous_dma: 0,
-            sprite_display: 0,
-            vertical_match: 0,
-            sprites: [Sprite::default(); 8],
-            matrix: [0; 40],
-            vc: 0,
-            vc_base: 0,
-            rc: 0,
-            vmli: 0,
-            ba_low: false,
-            aec_low: false,
-            irq_changed: false,
-            displaying: false,
-            entering: false,
-            accessing: false,
-            mode: 0,
-            previous_mode: 0,
-            mode_changing: false,
-            character: 0,
-            carry: 0,
-            graphics: 0,
-            den_latch: false,
-            frame_flag: false,
-            raster_match: false,
-            aec_counter: 0,
-            clock_fall: 0,
-            clock_rise: 0,
-            forced_clock: 0,
-            clock: 0,
-            pending: None,
-        }
     }
 }
 
@@ -328,10 +263,22 @@ pub enum Kind {
     Place,
 }
 
+impl Kind {
+    pub fn word(self) -> &'static str {
+        match self {
+            Kind::Number => "number",
+            Kind::Signed => "signed",
+            Kind::Flag => "flag",
+            Kind::Mode => "mode",
+            Kind::Place => "place",
+        }
+    }
+}
+
 /// All fields in order, from the byte after the head.
 pub fn fields() -> Vec<Field> {
     let mut names = Names { fields: Vec::new(), at: HEAD.len() };
-    State::zero().visit(&mut names);
+    State::default().visit(&mut names);
     assert_eq!(names.at, SCENE);
     names.fields
 }

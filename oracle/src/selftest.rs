@@ -7,8 +7,11 @@ use crate::replay::{answer_case, Case, BA_HIGH_AT_PHI1, LATE_BYTE, TICK};
 use crate::rng::Rng;
 use crate::scene::{fields, Kind, State, SCENE};
 use crate::states::{accepted_state, wild_state};
+use crate::vic::fsm::{DisplayState, GraphicsMode};
 use crate::vic::glue::Machine;
+use crate::vic::state::VicII;
 use crate::vic::timing::VicTiming;
+use std::panic;
 
 type Check = (&'static str, fn() -> bool);
 
@@ -21,6 +24,7 @@ const CHECKS: &[Check] = &[
     ("faults of a run file", faults),
     ("the twelve settled by proof", the_twelve),
     ("the mask follows the slots", the_mask),
+    ("what the original does where the port leaves it", the_originals_own),
 ];
 
 pub fn selftest() -> bool {
@@ -87,7 +91,7 @@ fn the_chip_keeps_a_scene() -> bool {
 
 /// Document 01's list, with corners.md, item 15.
 fn power_up() -> bool {
-    let mut expected = State::zero();
+    let mut expected = State::default();
     expected.cycle = 63;
     expected.raster = 311;
     expected.ba_output_high = true;
@@ -218,7 +222,7 @@ fn the_twelve() -> bool {
         && masks
         && crunched.sprites[0].base == 7
         && (ended.sprites[0].base, ended.sprites[0].dma, ended.dma) == (63, false, 0)
-        && (late.matrix[5], late.pending) == (0x07FF, None)
+        && (late.matrix.0[5], late.pending) == (0x07FF, None)
         && (bad_at_58.rc, bad_at_58.displaying) == (0, true)
         && (idle_at_58.rc, idle_at_58.displaying) == (7, false)
 }
@@ -247,4 +251,81 @@ fn the_mask() -> bool {
         let expected = (0..8u16).filter(|n| (55..=59).any(|first| (first + 2 * n - 1) % 63 + 1 == cycle)).fold(0, |mask, n| mask | 1 << n);
         mask_at(cycle) == expected
     })
+}
+
+/// Whether the original stops itself here; its message is not printed.
+fn panics(act: impl FnOnce() + panic::UnwindSafe) -> bool {
+    let hook = panic::take_hook();
+    panic::set_hook(Box::new(|_| {}));
+    let stopped = panic::catch_unwind(act).is_err();
+    panic::set_hook(hook);
+    stopped
+}
+
+/// docs/DIFFERENCES.md, 13 to 15 and 17 to 22, each on its smallest input. No replay case can hold most of these: the original is
+/// asked without acceptance.
+fn the_originals_own() -> bool {
+    let found = [
+        (13, VicII::new().forced_badline_c_access_clock == -40),
+        (14, panics(|| _ = VicTiming::compute_is_badline(512, 0, true))),
+        (15, {
+            let mut timing = VicTiming { raster_line: 312, ..VicTiming::new() };
+            !timing.advance_line() && timing.raster_line == 313
+        }),
+        (17, panics(|| VicTiming { cycle: 65535, ..VicTiming::new() }.tick())),
+        (18, {
+            let mut chip = VicII::new();
+            chip.sprites.sprites[0].mc = 256;
+            chip.sprites.sprites[0].advance_mcbase(true, false);
+            chip.sprites.sprites[0].mc_base == 256
+        }),
+        (19, {
+            panics(|| {
+                let mut chip = VicII::new();
+                chip.current_clock = i64::MAX - 1;
+                chip.tick_sequencer(&mut Memory::new(), 0);
+            })
+        }),
+        (20, {
+            let mut chip = VicII::new();
+            chip.irq.flags = 1;
+            chip.regs.write(0x19, 1, &mut chip.irq);
+            chip.sprites.write_y_expand(1, 20, &mut chip.regs);
+            chip.irq.flags == 0 && chip.regs.sprite_y_exp == 1
+        }),
+        (21, {
+            let mut memory = Memory::new();
+            memory.ram[0x2000] = 0x77;
+            let mut chip = displaying();
+            chip.vc = 1024;
+            chip.regs.ctrl1 = 0x20;
+            chip.previous_graphics_mode = GraphicsMode::from_code(2);
+            chip.tick_sequencer(&mut memory, 0);
+            chip.graphics_data_fetched == 0x77
+        }),
+        (22, {
+            let mut chip = displaying();
+            chip.vmli = 129;
+            chip.forced_badline_c_access_clock = chip.current_clock;
+            chip.matrix_line[1] = 0x0802;
+            chip.matrix_line[8] = 0x0084;
+            chip.tick_sequencer(&mut Memory::new(), 0);
+            chip.char_data_carry == 0x0802
+        }),
+    ];
+    for (number, _) in found.iter().filter(|(_, shown)| !shown) {
+        println!("       difference {number} is not shown");
+    }
+    found.iter().all(|(_, shown)| *shown)
+}
+
+/// In the middle of a line that is displayed, row 0, far from any forced bad line.
+fn displaying() -> VicII {
+    let mut chip = VicII::new();
+    chip.timing.cycle = 19;
+    chip.timing.raster_line = 0x33;
+    chip.current_clock = 1000;
+    chip.display_state = DisplayState::Display;
+    chip.border.char_data_output_disabled = false;
+    chip
 }

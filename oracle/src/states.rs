@@ -2,7 +2,7 @@
 
 use crate::accept::{vmli_limit, CLOCK_LIMIT};
 use crate::rng::Rng;
-use crate::scene::{Sprite, State};
+use crate::scene::{Matrix, Sprite, State};
 
 /// Lines at which something begins or ends, and their neighbours.
 const LINES: [u16; 24] =
@@ -73,7 +73,7 @@ pub fn accepted_state(r: &mut Rng, cycle: u16) -> State {
             word: r.next() as u32,
             bytes: array(r),
         }),
-        matrix: std::array::from_fn(|_| r.word()),
+        matrix: Matrix(std::array::from_fn(|_| r.word())),
 
         vc: video_counter(r),
         vc_base: video_counter(r),
