@@ -22,10 +22,13 @@ pub record Going (s : List ℕ) (m : Store) (start : Run) (out : List ℕ) (left
   pub fewer : ahead s r + count ≤ ahead s start
   pub within : r .at ≤ 65536
 
+pub never : {P : Type 0} → true ≡ false → P
+never e = absurd (let z : _≡_ {A = Bool} true false = e in let n : _≡_ {A = ℕ} 0 1 = cc in omega arith)
+
 -- what the loop's test says
 both : (a b : Bool) → (a && b) ≡ true → (a ≡ true) × (b ≡ true)
 both true b e = (refl, e)
-both false b e = absurd (let z : _≡_ {A = Bool} false true = e in let n : _≡_ {A = ℕ} 0 1 = cc in omega arith)
+both false b e = never (sym e)
 
 pub is-going : (r : Run) → goes r ≡ true → r .going ≡ true
 is-going r e = both (r .going) (leb (r .at) 65472) e .0
@@ -77,9 +80,6 @@ module _ (s : List ℕ) (m : Store) (start begun : Run) (out : List ℕ) (left :
 
   pub at-last : Filled s m start out left r after
   at-last = record { count = now .count; run = ap (λ x. x .run) (now .same); store = ap (λ x. x .store) (now .same); text = now .text; over = over }
-
-  never : {P : Type 0} → true ≡ false → P
-  never e = absurd (let z : _≡_ {A = Bool} true false = e in let n : _≡_ {A = ℕ} 0 1 = cc in omega arith)
 
   some : start .going ≡ true → (k : ℕ) → now .count ≡ k → 0 < k
   unfolding turns
