@@ -1,0 +1,4 @@
+pub mod Glue
+pub mod Less
+pub mod Loop
+pub mod Blocks
