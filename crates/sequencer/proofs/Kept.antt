@@ -85,7 +85,7 @@ unfolding tickWorld
 world-kept h g w e t =
     let f = accepted-fine (chipOf g w) e in
     fine-accepted (chipOf g (tickWorld h g w)) (record {
-      side = side-kept (timed g) (w .side) (f .side) (tickable-can (w .side .bus .clock) (accepted-clock (chipOf g w) e) t);
+      side = side-kept _ (w .side) (f .side) (tickable-can (w .side .bus .clock) (accepted-clock (chipOf g w) e) t);
       compare = f .compare;
       forced = rw forced-kept (f .forced);
     })

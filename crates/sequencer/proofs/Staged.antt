@@ -44,7 +44,7 @@ fits-some k n (negsuc c) l m f t e = absurd t
 
 tick-clock : (h : Host) (g : Registers) (w : World) → tickWorld h g w .side .bus .clock ≡ clockOn (w .side .bus .clock)
 unfolding tickWorld
-tick-clock h g w = side-clock (timed g) (w .side)
+tick-clock h g w = side-clock _ (w .side)
 
 -- ticks after ticks
 again : (h : Host) (c d : Chip) (a b : ℕ) → ticksFrom h a c ≡ ticksFrom h b d → ticksFrom h (suc a) c ≡ ticksFrom h (suc b) d
