@@ -113,6 +113,20 @@ dark c b e =
       first = never g (λ k. happens firstPhase k) tt c b n;
     }
 
+-- past the beginning of a line and the end of a frame
+pub record Later (c : ℕ) : Type 0 where
+  pub begins : happens lineBegins c ≡ false
+  pub wraps : happens frameEnds c ≡ false
+
+pub later : (c : ℕ) → c < 64 → ltb 2 c ≡ true → Later c
+unfolding happens
+later c b e =
+    let g : ℕ → Bool = λ k. ltb 2 k in
+    record {
+      begins = never g (λ k. happens lineBegins k) tt c b e;
+      wraps = never g (λ k. happens frameEnds k) tt c b e;
+    }
+
 -- between the compares of a line's ends
 pub record Between (c : ℕ) : Type 0 where
   pub begins : happens lineBegins c ≡ false

@@ -235,13 +235,13 @@ fn inner_dark(
     let side0 = core.side;
     let pen0 = core.pen;
     let lines = regs.my;
-    let den = registers::den(regs.ctrl1);
+    let shown = registers::den(regs.ctrl1);
     let rsel = registers::rsel(regs.ctrl1);
     let scroll = registers::yscroll(regs.ctrl1);
     let csel = registers::csel(regs.ctrl2);
     let turned = side::turn_dark(
         side0,
-        den,
+        shown,
         rsel,
         scroll,
         csel,

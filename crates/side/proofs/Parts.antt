@@ -9,7 +9,8 @@ use Rattle.laws.specs.Bits.{hasBit}
 use Rattle.laws.specs.Pick.{pick}
 use Rattle.laws.proofs.Choice.{picks}
 use Rattle.schedule.specs.Diagram.{happens, graphicsAccess, accessEnds}
-use Rattle.schedule.proofs.Parts.{Lit, Past, Dark, Between, Calm, Still}
+use Rattle.schedule.proofs.Parts.{Lit, Past, Dark, Later, Between, Calm, Still}
+use Rattle.registers.specs.declared.Irq.{Irq}
 use Rattle.timing.specs.Beam.{nextCycle, badLine, baOutput}
 use Rattle.timing.proofs.Kept.{cycle-high}
 use Rattle.border.specs.declared.Border.{Border}
@@ -20,11 +21,12 @@ use Rattle.arbitration.specs.declared.Bus.{Bus}
 use Rattle.arbitration.specs.Bus.{clocked, requested, arbitrated}
 use Rattle.access.specs.declared.Pending.{Pending}
 use Rattle.access.specs.Matrix.{pendingAfter}
+use Rattle.side.specs.declared.Frame.{Frame}
 use Rattle.side.specs.declared.Side.{Side}
 use Rattle.side.specs.declared.Turned.{Turned}
 use Rattle.side.specs.declared.Rows.{Rows}
 use Rattle.side.specs.declared.Rowed.{Rowed}
-use Rattle.side.specs.Frame.{rasterBegun, frameBegun, frameEnded, raised}
+use Rattle.side.specs.Frame.{rasterBegun, frameBegun, frameEnded, raised, Sweeps}
 use Rattle.side.specs.Rows.{vcAfter, vmliAfter, rcAfter, accessAfter, displayAfter, rowed}
 use Rattle.side.specs.Phases.{beginAt, left40At, left38At, right38At, right40At, rememberAt, endAt, bordered, stepAt, firstAt, secondAt, loadAt, phased, slotMoved}
 use Rattle.side.specs.Turn.{Controls, turned}
@@ -79,6 +81,19 @@ once true true = refl
 once true false = refl
 once false true = refl
 once false false = refl
+
+-- past the second cycle the line, the frame and the interrupt stay
+pub swept-later : (f : Frame) (i : Irq) (cycle raster : ℕ) (den : Bool) (compare : ℕ) → Later cycle
+    → Sweeps f i cycle raster den compare (record { line = raster; begun = f; wraps = false; raster = raster; frame = f; irq = i })
+unfolding rasterBegun frameBegun frameEnded raised
+swept-later f i cycle raster den compare l = record {
+  line = rw (l .begins) refl;
+  begun = rw (l .begins) refl;
+  wraps = rw (l .wraps) refl;
+  raster = sym (picks false 0 raster);
+  frame = refl;
+  irq = rw (never-both (f .matched)) refl;
+}
 
 off : (b : Bool) → not b ≡ true → b ≡ false
 off true e = sym e

@@ -1,12 +1,15 @@
 -- The beginning of a line and the end of a frame (01, tick 3 and 4).
 use Prim.Native.Nat.{ℕ}
+use mathlib.Core.Path.{_≡_}
 use mathlib.Core.Bool.{Bool, true, false, not, _&&_, _||_, cond}
 use lib.Dec.{eqb}
 use Rattle.laws.specs.Pick.{pick}
 use Rattle.registers.specs.declared.Irq.{Irq}
 use Rattle.registers.specs.Irq.{triggered}
-use Rattle.timing.specs.Beam.{nextLine}
+use Rattle.schedule.specs.Diagram.{happens, lineBegins, frameEnds}
+use Rattle.timing.specs.Beam.{nextLine, atLastLine}
 use Rattle.side.specs.declared.Frame.{Frame}
+use Rattle.side.specs.declared.Swept.{Swept}
 
 -- 01, power-up: no flag is set
 unfoldable pub freshFrame : Frame
@@ -31,3 +34,12 @@ frameEnded f wraps = cond wraps (record { ending = false; matched = f .matched; 
 -- Bauer 3.12: the raster interrupt is source 1
 unfoldable pub raised : Irq → Bool → Irq
 raised irq raises = cond raises (triggered irq 1) irq
+
+-- what a part of the code hands on of tick 3 and 4, name by name as `turned` has them
+pub record Sweeps (f : Frame) (i : Irq) (cycle before : ℕ) (den : Bool) (compare : ℕ) (r : Swept) : Type 0 where
+  pub line : r .line ≡ rasterBegun (happens lineBegins cycle) before
+  pub begun : r .begun ≡ frameBegun f (happens lineBegins cycle) (happens lineBegins cycle && atLastLine before) (r .line) den compare
+  pub wraps : r .wraps ≡ (happens frameEnds cycle && r .begun .ending)
+  pub raster : r .raster ≡ pick (r .wraps) 0 (r .line)
+  pub frame : r .frame ≡ frameEnded (r .begun) (r .wraps)
+  pub irq : r .irq ≡ raised i ((r .begun .matched && not (f .matched)) || (r .wraps && eqb compare 0))

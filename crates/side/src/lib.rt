@@ -6,7 +6,7 @@ ghost use Rattle.laws.specs.Clock.{inRange};
 ghost use Rattle.schedule.specs.Diagram.{happens, graphicsAccess};
 ghost use Rattle.timing.specs.Beam.{nextCycle};
 ghost use Rattle.arbitration.specs.Bus.{requested};
-ghost use Rattle.side.specs.Frame.{freshFrame, frameBegun, frameEnded, rasterBegun, raised};
+ghost use Rattle.side.specs.Frame.{freshFrame, frameBegun, frameEnded, rasterBegun, raised, Sweeps};
 ghost use Rattle.side.specs.Rows.{freshRows, vcAfter, vmliAfter, rcAfter, accessAfter, displayAfter, rowed};
 ghost use Rattle.side.specs.Phases.{beginAt, left40At, left38At, right38At, right40At, rememberAt, endAt, bordered, stepAt, firstAt, secondAt, loadAt, phased, slotMoved};
 ghost use Rattle.side.specs.Turn.{controls, freshSide, turned};
@@ -48,6 +48,16 @@ pub struct Side {
     pub pending: Pending,
     // the interrupt line as the last tick left it
     pub changed: bool,
+}
+
+// What the line and the frame do in a cycle, and the frame's flags between the two.
+pub struct Swept {
+    pub line: u16,
+    pub begun: Frame,
+    pub wraps: bool,
+    pub raster: u16,
+    pub frame: Frame,
+    pub irq: Irq,
 }
 
 // What the display logic does in a cycle, and the numbers that its accesses find.
@@ -146,6 +156,50 @@ fn raise(irq: Irq, raises: bool) -> Irq
         return irq.trigger(1);
     }
     irq
+}
+
+// A line begins, and a frame ends.
+fn line_ends(frame: Frame, irq: Irq, cycle: u16, raster: u16, den: bool, compare: u16) -> Swept
+    ensures { λ r. ⌜ Sweeps frame irq cycle raster den compare r ⌝ }
+{
+    let begins = schedule::line_begins(cycle);
+    let last = begins & timing::at_last_line(raster);
+    let line = raster_begun(begins, raster);
+    let begun = frame.begin(begins, last, line, den, compare);
+    let wraps = schedule::frame_ends(cycle) & begun.ending;
+    let shown = laws::pick16(wraps, 0, line);
+    let ended = begun.end(wraps);
+    let told = raise(
+        irq,
+        (begun.matched & !frame.matched) | (wraps & (compare == 0)),
+    );
+    Swept {
+        line: line,
+        begun: begun,
+        wraps: wraps,
+        raster: shown,
+        frame: ended,
+        irq: told,
+    }
+}
+
+// Past the second cycle neither happens.
+fn line_turn(frame: Frame, irq: Irq, cycle: u16, raster: u16, den: bool, compare: u16) -> Swept
+    requires { ⌜ cycle < 64 ⌝ }
+    ensures { λ r. ⌜ Sweeps frame irq cycle raster den compare r ⌝ }
+{
+    let later = 2 < cycle;
+    if later {
+        return Swept {
+            line: raster,
+            begun: frame,
+            wraps: false,
+            raster: raster,
+            frame: frame,
+            irq: irq,
+        };
+    }
+    line_ends(frame, irq, cycle, raster, den, compare)
 }
 
 // ---- the border's compares, each in its cycle
@@ -662,18 +716,13 @@ pub fn turn_dark(
     let bus0 = side.bus;
     let clocked = bus0.clocked();
     let cycle = timing::next_cycle(beam0.cycle);
-    let begins = schedule::line_begins(cycle);
-    let last = begins & timing::at_last_line(beam0.raster);
-    let line = raster_begun(begins, beam0.raster);
-    let frame1 = frame0.begin(begins, last, line, den, compare);
-    let bad = timing::bad_line(line, yscroll, frame1.latch);
-    let wraps = schedule::frame_ends(cycle) & frame1.ending;
-    let raster = laws::pick16(wraps, 0, line);
-    let frame = frame1.end(wraps);
-    let irq = raise(
-        irq0,
-        (frame1.matched & !frame0.matched) | (wraps & (compare == 0)),
-    );
+    let swept = line_turn(frame0, irq0, cycle, beam0.raster, den, compare);
+    let begun = swept.begun;
+    let irq = swept.irq;
+    let frame = swept.frame;
+    let wraps = swept.wraps;
+    let raster = swept.raster;
+    let bad = timing::bad_line(swept.line, yscroll, begun.latch);
     let border = border_dark(border0, cycle, raster, den, csel);
     let phased = sprites_dark(sprites0, cycle, raster, my, enable, yexp);
     let ba = timing::ba_output(bad, cycle);

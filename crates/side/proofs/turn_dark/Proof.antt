@@ -1,3 +1,4 @@
+use mathlib.Core.Path.{refl}
 use Rattle.schedule.proofs.Laws.{slot-small}
 use Rattle.side.specs.Turn.{controls}
 use Rattle.side.proofs.Glue.{turn-glue}
@@ -12,38 +13,17 @@ clocked-requires c κs = search needs
 next-cycle-requires : tie.Need-next-cycle-requires
 next-cycle-requires c κs = search needs
 
-line-begins-requires : tie.Need-line-begins-requires
-line-begins-requires c κs = search needs
-
-at-last-line-requires : tie.Need-at-last-line-requires
-at-last-line-requires c κs = search needs
-
-raster-begun-requires : tie.Need-raster-begun-requires
-raster-begun-requires c κs = search needs
-
-begin-requires : tie.Need-begin-requires
-begin-requires c κs = search needs
+line-turn-requires : tie.Need-line-turn-requires
+line-turn-requires c κs = rw (c .next-cycle .ensures) (small _)
 
 bad-line-requires : tie.Need-bad-line-requires
 bad-line-requires c κs = search needs
 
-frame-ends-requires : tie.Need-frame-ends-requires
-frame-ends-requires c κs = search needs
-
-pick16-requires : tie.Need-pick16-requires
-pick16-requires c κs = search needs
-
-end-requires : tie.Need-end-requires
-end-requires c κs = search needs
-
-raise-requires : tie.Need-raise-requires
-raise-requires c κs = search needs
-
 border-dark-requires : tie.Need-border-dark-requires
-border-dark-requires c κs = (rw (c .before .before .before .before .before .before .before .before .before .before .before .before .next-cycle .ensures) (small _), rw (c .before .before .before .before .before .before .before .before .before .before .before .before .next-cycle .ensures) (c .before .before .before .before .before .before .before .before .before .before .before .before .before .before .before .before .before .before .before .before .before .pre .1))
+border-dark-requires c κs = (rw (c .before .before .before .before .before .next-cycle .ensures) (small _), rw (c .before .before .before .before .before .next-cycle .ensures) (c .before .before .before .before .before .before .before .before .before .before .before .before .before .before .pre .1))
 
 sprites-dark-requires : tie.Need-sprites-dark-requires
-sprites-dark-requires c κs = (rw (c .before .before .before .before .before .before .before .before .before .before .before .before .before .next-cycle .ensures) (small _), rw (c .before .before .before .before .before .before .before .before .before .before .before .before .before .next-cycle .ensures) (c .before .before .before .before .before .before .before .before .before .before .before .before .before .before .before .before .before .before .before .before .before .before .pre .1))
+sprites-dark-requires c κs = (rw (c .before .before .before .before .before .before .next-cycle .ensures) (small _), rw (c .before .before .before .before .before .before .next-cycle .ensures) (c .before .before .before .before .before .before .before .before .before .before .before .before .before .before .before .pre .1))
 
 ba-output-requires : tie.Need-ba-output-requires
 ba-output-requires c κs = search needs
@@ -79,27 +59,28 @@ data-time-requires : tie.Need-data-time-requires
 data-time-requires c κs = search needs
 
 rows-dark-requires : tie.Need-rows-dark-requires
-rows-dark-requires c κs = rw (c .before .before .before .before .before .before .before .before .before .before .before .before .before .before .before .before .before .before .before .before .before .before .before .before .before .before .next-cycle .ensures) (small _)
+rows-dark-requires c κs = rw (c .before .before .before .before .before .before .before .before .before .before .before .before .before .before .before .before .before .before .before .next-cycle .ensures) (small _)
 
 next-pending-requires : tie.Need-next-pending-requires
 next-pending-requires c κs = search needs
 
 returns : tie.Need-returns
 returns c =
-    let start = c .before .before .before .before .before .before .before .before .before .before .before .before .before .before .before .before .before .before .before .before .before .before .before .before .before .before .before .before .before .before .before .before .before .before .before .before .before .before .before .before .before .before .before .args in
+    let start = c .before .before .before .before .before .before .before .before .before .before .before .before .before .before .before .before .before .before .before .before .before .before .before .before .before .before .before .before .before .before .before .before .before .before .before .before .args in
     let g = controls (start .den) (start .rsel) (start .yscroll) (start .csel) (start .compare) (start .my) (start .enable) (start .yexp) in
+    let swept = c .before .before .before .before .before .before .before .before .before .before .before .before .before .before .before .before .before .before .before .before .before .before .before .before .before .before .line-turn .ensures in
     turn-glue g (start .side)
-    (c .before .before .before .before .before .before .before .before .before .before .before .before .before .before .before .before .before .before .before .before .before .before .before .before .before .before .before .before .before .before .before .before .before .before .before .clocked .ensures)
-    (c .before .before .before .before .before .before .before .before .before .before .before .before .before .before .before .before .before .before .before .before .before .before .before .before .before .before .before .before .before .before .before .before .before .before .next-cycle .ensures)
-    (c .before .before .before .before .before .before .before .before .before .before .before .before .before .before .before .before .before .before .before .before .before .before .before .before .before .before .before .before .before .before .before .before .before .line-begins .ensures)
-    (c .before .before .before .before .before .before .before .before .before .before .before .before .before .before .before .before .before .before .before .before .before .before .before .before .before .before .before .before .before .before .before .before .at-last-line .ensures)
-    (c .before .before .before .before .before .before .before .before .before .before .before .before .before .before .before .before .before .before .before .before .before .before .before .before .before .before .before .before .before .before .before .raster-begun .ensures)
-    (c .before .before .before .before .before .before .before .before .before .before .before .before .before .before .before .before .before .before .before .before .before .before .before .before .before .before .before .before .before .before .begin .ensures)
-    (c .before .before .before .before .before .before .before .before .before .before .before .before .before .before .before .before .before .before .before .before .before .before .before .before .before .before .before .before .before .bad-line .ensures)
-    (c .before .before .before .before .before .before .before .before .before .before .before .before .before .before .before .before .before .before .before .before .before .before .before .before .before .before .before .before .frame-ends .ensures)
-    (c .before .before .before .before .before .before .before .before .before .before .before .before .before .before .before .before .before .before .before .before .before .before .before .before .before .before .pick16 .ensures)
-    (c .before .before .before .before .before .before .before .before .before .before .before .before .before .before .before .before .before .before .before .before .before .before .before .before .before .end .ensures)
-    (c .before .before .before .before .before .before .before .before .before .before .before .before .before .before .before .before .before .before .before .before .before .before .raise .ensures)
+    (c .before .before .before .before .before .before .before .before .before .before .before .before .before .before .before .before .before .before .before .before .before .before .before .before .before .before .before .before .clocked .ensures)
+    (c .before .before .before .before .before .before .before .before .before .before .before .before .before .before .before .before .before .before .before .before .before .before .before .before .before .before .before .next-cycle .ensures)
+    refl
+    refl
+    (swept .line)
+    (swept .begun)
+    (c .before .before .before .before .before .before .before .before .before .before .before .before .before .before .before .before .before .before .before .before .before .before .bad-line .ensures)
+    refl
+    (rw (swept .wraps) at (swept .raster))
+    (rw (swept .wraps) at (swept .frame))
+    (rw (swept .wraps) at (swept .irq))
     (c .before .before .before .before .before .before .before .before .before .before .before .before .before .before .before .before .before .before .before .before .before .border-dark .ensures)
     (c .before .before .before .before .before .before .before .before .before .before .before .before .before .before .before .before .before .before .before .before .sprites-dark .ensures)
     (c .before .before .before .before .before .before .before .before .before .before .before .before .before .before .before .before .before .before .before .ba-output .ensures)
@@ -113,7 +94,7 @@ returns c =
     (c .before .before .before .before .before .before .before .before .before .before .before .pick-bool .ensures)
     (c .before .before .before .before .before .before .before .before .before .before .pointer-time .ensures)
     (c .before .before .before .before .before .before .before .before .before .data-time .ensures)
-    (c .before .before .before .before .before .before .before .rows-dark .ensures)
+    (rw (swept .wraps) at (c .before .before .before .before .before .before .before .rows-dark .ensures))
     (c .before .before .before .next-pending .ensures)
 
 pub turn-dark-spec : {M : Type 1} → statement M
@@ -122,15 +103,8 @@ turn-dark-spec =
     (tie.spec
     clocked-requires
     next-cycle-requires
-    line-begins-requires
-    at-last-line-requires
-    raster-begun-requires
-    begin-requires
+    line-turn-requires
     bad-line-requires
-    frame-ends-requires
-    pick16-requires
-    end-requires
-    raise-requires
     border-dark-requires
     sprites-dark-requires
     ba-output-requires
