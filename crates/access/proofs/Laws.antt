@@ -1,14 +1,14 @@
 -- What the steps leave as it is: a place is one of the forty, and no list changes its length. Assumes nothing.
 use Prim.Native.Nat.{ℕ, _<_}
 use mathlib.Core.Path.{_≡_, refl}
-use mathlib.Core.Bool.{Bool, not}
+use mathlib.Core.Bool.{Bool, true, false, not, _||_, cond, false≢true}
 use mathlib.Core.List.{List}
 use native.Mathlib.Omega.{arith}
 use lib.Dec.{eqb, ltb, leb}
-use lib.ListN.{length, length-set}
+use lib.ListN.{length, length-set, getD}
 use Rattle.laws.proofs.Choice.{either}
 use Rattle.access.specs.Matrix.{placeOf, filled, pendingAfter}
-use Rattle.access.specs.Merge.{Merging, previousOf, mergedAt, merged, latched}
+use Rattle.access.specs.Merge.{Merging, merging, previousOf, mergedAt, merged, latched}
 use Rattle.access.specs.declared.Pending.{Pending}
 use Rattle.access.specs.declared.Pending.the-variants.{Nothing, At}
 use Rattle.access.specs.Slots.{pointersAfter, byteTwoAfter, dataAfter, wordsAfter}
@@ -33,6 +33,27 @@ Pends (At p) = p < 40
 pub pending-small : (missed : Bool) (vmli : ℕ) (old : Pending) → Pends old → Pends (pendingAfter missed vmli old)
 unfolding pendingAfter
 pending-small missed vmli old h = either Pends missed (place-small vmli) h
+
+-- nothing missed, and no place filled
+pub none-missed : (vmli : ℕ) (old : Pending) → old ≡ pendingAfter false vmli old
+unfolding pendingAfter
+none-missed vmli old = refl
+
+pub none-filled : (m : List ℕ) (vmli vc ptrs : ℕ) (ram rom colour : List ℕ) (bank : ℕ) → filled m false vmli vc ptrs ram rom colour bank ≡ m
+unfolding filled
+none-filled m vmli vc ptrs ram rom colour bank = refl
+
+-- the character of an access that merges nothing
+abbrev pub plainChar : List ℕ → Bool → Bool → ℕ → ℕ → ℕ
+plainChar m moves hidden vmli ch = cond hidden ch (cond moves (getD m (placeOf vmli) 0) 0)
+
+pub none-merged : (m : List ℕ) (moves hidden plain : Bool) (cycle f vmli ch carry : ℕ) → (hidden || not moves || plain) ≡ true
+    → latched m moves hidden plain cycle f vmli ch carry ≡ merging (plainChar m moves hidden vmli ch) carry m
+unfolding latched
+none-merged m moves true plain cycle f vmli ch carry e = refl
+none-merged m false false plain cycle f vmli ch carry e = refl
+none-merged m true false true cycle f vmli ch carry e = refl
+none-merged m true false false cycle f vmli ch carry e = absurd (false≢true e)
 
 -- a list as long as m, and a merge that leaves such a one
 abbrev Long : List ℕ → List ℕ → Type 0

@@ -1,6 +1,6 @@
 -- The AEC counter and the clock keep their bounds, and which field of the bus a step changes. Assumes nothing.
-use Prim.Native.Nat.{ℕ, zero, suc, _+_}
-use mathlib.Core.Path.{_≡_, refl, sym}
+use Prim.Native.Nat.{ℕ, zero, suc, _+_, _*_}
+use mathlib.Core.Path.{_≡_, refl, sym, ap}
 use mathlib.Core.Bool.{Bool, true, false, not, _||_}
 use native.Mathlib.Omega.{arith}
 use lib.Bits.{and-zero-r}
@@ -9,7 +9,7 @@ use Rattle.laws.specs.Clock.{inRange, canTick}
 use Rattle.laws.proofs.Choice.{either}
 use Rattle.schedule.specs.Requests.{maskAt}
 use Rattle.arbitration.specs.declared.Bus.{Bus}
-use Rattle.arbitration.specs.Bus.{down, Counted, aecAfter, arbitrated, clockOn, clocked, fresh, spriteAsks, requested}
+use Rattle.arbitration.specs.Bus.{down, Counted, aecAfter, low, arbitrated, clockOn, clockAfter, clocked, fresh, spriteAsks, requested}
 
 counted-down : (z : ℤ) → Counted z → Counted (down z)
 counted-down (negsuc n) h = h
@@ -29,7 +29,28 @@ unfolding clockOn
 clock-on-range (pos n) h = omega arith
 clock-on-range (negsuc n) h = absurd h
 
+pub clock-after : (k n : ℕ) → clockAfter k (pos n) ≡ pos (n + k * 2)
+unfolding clockAfter
+clock-after k n = refl
+
+-- no cycle on, and one more
+pub clock-after-none : (z : ℤ) → inRange z → clockAfter 0 z ≡ z
+unfolding clockAfter
+clock-after-none (pos n) h = ap pos (omega arith)
+clock-after-none (negsuc n) h = absurd h
+
+pub clock-after-one-more : (k : ℕ) (z : ℤ) → inRange z → clockAfter k (clockOn z) ≡ clockAfter (suc k) z
+unfolding clockAfter clockOn
+clock-after-one-more k (pos n) h = ap pos (omega arith)
+clock-after-one-more k (negsuc n) h = absurd h
+
 module _ (b : Bus) where
+  -- a bus that is the CPU's, and that nobody asks for
+  pub free-bus : b .balow ≡ false
+      → _≡_ {A = Bus} (record { clock = clockOn (b .clock); fall = b .fall; rise = b .rise; aec = pos 3; balow = false; aeclow = false }) (arbitrated (clocked b) false)
+  unfolding arbitrated clocked aecAfter low
+  free-bus e = simp e
+
   pub arbitrated-aec : (asked : Bool) → arbitrated b asked .aec ≡ aecAfter (b .aec) asked
   unfolding arbitrated
   arbitrated-aec asked = refl

@@ -1,5 +1,5 @@
 -- BA warns the CPU and AEC takes the bus (Bauer 3.6.1).
-use Prim.Native.Nat.{ℕ, zero, suc, _≤_}
+use Prim.Native.Nat.{ℕ, zero, suc, _*_, _≤_}
 use mathlib.Core.Path.{_≡_}
 use mathlib.Core.Bool.{Bool, true, false, not, _&&_, _||_, cond}
 use lib.Dec.{eqb}
@@ -17,6 +17,10 @@ fresh = record { clock = pos 0; fall = pos 0; rise = pos 0; aec = pos 3; balow =
 -- 01, tick 1: clock +2
 unfoldable pub clockOn : ℤ → ℤ
 clockOn clock = clock +ℤ pos 2
+
+-- k cycles on
+unfoldable pub clockAfter : ℕ → ℤ → ℤ
+clockAfter k clock = clock +ℤ pos (k * 2)
 
 unfoldable pub clocked : Bus → Bus
 clocked b = clock≔ (clockOn (b .clock)) b

@@ -3,7 +3,7 @@ ghost use mathlib.Core.Path.{_≡_};
 ghost use mathlib.Core.Bool.{Bool, cond};
 ghost use lib.IntN.{ℤ};
 ghost use Rattle.laws.specs.Clock.{inRange};
-ghost use Rattle.arbitration.specs.Bus.{fresh, clockOn, clocked, spriteAsks, requested, aecAfter, low, arbitrated, phi1Mask, phi1High};
+ghost use Rattle.arbitration.specs.Bus.{fresh, clockOn, clockAfter, clocked, spriteAsks, requested, aecAfter, low, arbitrated, phi1Mask, phi1High};
 
 pub struct Bus {
     pub clock: i64,
@@ -20,6 +20,14 @@ pub fn clock_on(clock: i64) -> i64
     ensures { λ r. ⌜ r ≡ clockOn clock ⌝ }
 {
     clock + 2
+}
+
+// The clock some cycles on.
+pub fn clock_after(clock: i64, k: u8) -> i64
+    requires { ⌜ inRange clock ⌝ }
+    ensures { λ r. ⌜ r ≡ clockAfter k clock ⌝ }
+{
+    clock + (laws::wide(k) * 2) as i64
 }
 
 // Whether a sprite with DMA is scheduled in this cycle.

@@ -29,6 +29,11 @@ pub forced-kept : (m : List ℕ) (o : Orders) (clock : ℤ) (p : Pen) (mode ptrs
 unfolding penAfter
 forced-kept m o clock p mode ptrs ram rom bank = refl
 
+pub changing-over : (m : List ℕ) (o : Orders) (clock : ℤ) (p : Pen) (mode ptrs : ℕ) (ram rom : List ℕ) (bank : ℕ)
+    → penAfter m o clock p mode ptrs ram rom bank .changing ≡ false
+unfolding penAfter
+changing-over m o clock p mode ptrs ram rom bank = refl
+
 -- power-up's is in range
 pub fresh-forced : inRange (freshPen .forced)
 unfolding freshPen

@@ -4,8 +4,9 @@ use mathlib.Core.Bool.{Bool, true, false, not, _&&_, _||_}
 use Prim.Native.Nat.{ℕ, _<_, _≤_}
 use native.Mathlib.Omega.{arith}
 use lib.Dec.{T, eqb, eqb→eq, leb, ltb, leb→le}
+use borrow.Author.Tests.{lt-ltb}
 use Rattle.laws.proofs.Below as Below
-use Rattle.laws.proofs.Choice.{right}
+use Rattle.laws.proofs.Choice.{left, right}
 use Rattle.schedule.specs.Diagram.{happens, lineBegins, frameEnds, vcLoad, accessChosen, characterAccess, graphicsAccess, accessEnds, rowEnds, mcbaseStep, firstPhase, secondPhase, mcLoad, mainRemembered, left40, left38, right38, right40, lineEnds, pointerTime, dataTime, slotSprite, slotAfterBus}
 use Rattle.schedule.specs.Requests.{maskAt}
 
@@ -91,6 +92,31 @@ past c b e =
 pub no-request : (c : ℕ) → happens graphicsAccess c ≡ true → ltb c 55 ≡ true → maskAt c ≡ 0
 unfolding happens maskAt
 no-request c g e = equal (λ k. happens graphicsAccess k && ltb k 55) (λ k. maskAt k) (λ k. 0) tt c (lit-small c g) (rw (g, e))
+
+-- between the left compares and the last graphics access: nothing is stepped, nothing ends, and no sprite asks
+pub record Mid (c : ℕ) : Type 0 where
+  pub graphics : happens graphicsAccess c ≡ true
+  pub past : Past c
+  pub over : happens accessEnds c ≡ false
+  pub step : happens mcbaseStep c ≡ false
+  pub first : happens firstPhase c ≡ false
+  pub asks : maskAt c ≡ 0
+
+pub mid : (c : ℕ) → (leb 19 c && leb c 54) ≡ true → Mid c
+unfolding happens maskAt
+mid c e =
+    let high : c ≤ 54 = leb→le c 54 (shown (leb c 54) (right (leb 19 c) (leb c 54) e)) in
+    let low : 19 ≤ c = leb→le 19 c (shown (leb 19 c) (left (leb 19 c) (leb c 54) e)) in
+    let b : c < 64 = omega (arith, high) in
+    let g : ℕ → Bool = λ k. leb 19 k && leb k 54 in
+    record {
+      graphics = alike g (λ k. happens graphicsAccess k) (λ k. true) tt c b e;
+      past = past c b (lt-ltb 18 c (omega (arith, low)));
+      over = never g (λ k. happens accessEnds k) tt c b e;
+      step = never g (λ k. happens mcbaseStep k) tt c b e;
+      first = never g (λ k. happens firstPhase k) tt c b e;
+      asks = equal g (λ k. maskAt k) (λ k. 0) tt c b e;
+    }
 
 -- without a graphics access: no left compare, no step of MCBASE, no first phase
 pub record Dark (c : ℕ) : Type 0 where

@@ -1,82 +1,36 @@
 // The schedule of a line: when each event happens, which sprites ask for the bus, and how many have DMA.
 ghost use mathlib.Core.Path.{_≡_};
-ghost use mathlib.Core.Bool.{Bool};
+ghost use mathlib.Core.Bool.{Bool, cond};
+ghost use Prim.Native.Nat.{_+_, _-_, _<_};
+ghost use lib.Dec.{ltb};
 ghost use Rattle.schedule.specs.Diagram.{Event, lineBegins, frameEnds, matrixRequest, vcLoad, accessChosen, characterAccess, vmliCounts, graphicsAccess, lateIdle, accessEnds, graphicsCleared, rowEnds, crunch, mcbaseStep, firstPhase, secondPhase, mcLoad, mainRemembered, left40, left38, right38, right40, lineEnds, happens, pointerTime, dataTime, slotSprite, slotAfterBus};
 ghost use Rattle.schedule.specs.Requests.{maskAt, spritesIn};
 
-// The sprites that ask in each cycle, sprite k at bit k. No cycle has the number 0.
-const MASKS: [u8; 64] = [
-    0x00,
-    0x18,
-    0x38,
-    0x30,
-    0x70,
-    0x60,
-    0xE0,
-    0xC0,
-    0xC0,
-    0x80,
-    0x80,
-    0,
-    0,
-    0,
-    0,
-    0,
-    0,
-    0,
-    0,
-    0,
-    0,
-    0,
-    0,
-    0,
-    0,
-    0,
-    0,
-    0,
-    0,
-    0,
-    0,
-    0,
-    0,
-    0,
-    0,
-    0,
-    0,
-    0,
-    0,
-    0,
-    0,
-    0,
-    0,
-    0,
-    0,
-    0,
-    0,
-    0,
-    0,
-    0,
-    0,
-    0,
-    0,
-    0,
-    0,
-    0x01,
-    0x01,
-    0x03,
-    0x03,
-    0x07,
-    0x06,
-    0x0E,
-    0x0C,
-    0x1C,
-];
+// The sprites that ask, t cycles after sprite 0 begins to: each asks for five cycles, and begins two after the one before it.
+fn asking(t: u16) -> u8
+    requires { ⌜ t < 19 ⌝ }
+    ensures { λ r. ⌜ r ≡ maskAt (cond (ltb t 9) (t + 55) (t - 8)) ⌝ }
+{
+    (((7 - t % 2) << (t / 2)) / 4 % 256) as u8
+}
 
-// The sprites that ask for the bus in a cycle; none for a number that is no cycle.
+// The sprites that ask for the bus in a cycle, sprite k at bit k; none for a number that is no cycle.
 pub fn mask(cycle: u16) -> u8
     ensures { λ r. ⌜ r ≡ maskAt cycle ⌝ }
 {
-    if cycle < 64 { MASKS[cycle as usize] } else { 0 }
+    if cycle < 1 {
+        return 0;
+    }
+    if cycle < 11 {
+        return asking(cycle + 8);
+    }
+    if cycle < 55 {
+        return 0;
+    }
+    if cycle < 64 {
+        return asking(cycle - 55);
+    }
+    0
 }
 
 // How many sprites have DMA on.

@@ -4,5 +4,6 @@ pub mod Glue
 pub mod Kept
 pub mod Runs
 pub mod Staged
+pub mod Skip
 pub mod Only
 pub mod Sides

@@ -5,7 +5,7 @@ ghost use mathlib.Core.Bool.{Bool, not};
 ghost use Prim.Native.Nat.{_<_, _≤_};
 ghost use lib.ListN.{length};
 ghost use lib.IntN.{ℤ};
-ghost use Rattle.laws.specs.Clock.{canTick};
+ghost use Rattle.laws.specs.Clock.{inRange, canTick};
 ghost use Rattle.schedule.specs.Diagram.{happens, graphicsAccess};
 ghost use Rattle.timing.specs.Beam.{nextCycle};
 ghost use Rattle.side.specs.Fine.{vmliLimit};
@@ -13,6 +13,7 @@ ghost use Rattle.sequencer.specs.Chip.{host, world, chip, chipOf, powere
 ghost use Rattle.sequencer.specs.Accept.{aecFine, clockFine, tickable, placeFine, accepted};
 ghost use Rattle.sequencer.specs.Tick.{Ready, Held, tickWorld, lentRefusal, tickRefusal, answer, ticked, ticksFrom};
 ghost use Rattle.sequencer.specs.Parts.{Roomy, Part};
+ghost use Rattle.sequencer.specs.Skip.{skippableBy, skipped, coreLater};
 ghost use Rattle.sequencer.specs.Calls.{registerRead, registerWritten, expandAt, comparesBy, controlsPlaced, displayPlaced, lateAt, lateTaken, phi1, dmaCount};
 use access::Pending;
 use picture::Pen;
@@ -273,6 +274,50 @@ fn inner_dark(
     }
 }
 
+// ---- ticks that only count are counted and not done, but for the last
+
+// Whether a tick after the left compares and before the last graphics access leaves only its own byte and what it counts.
+fn skippable(core: Core, regs: Registers) -> bool
+    ensures { λ r. ⌜ r ≡ skippableBy regs core ⌝ }
+{
+    let side = core.side;
+    let pen = core.pen;
+    let border = side.border;
+    let rows = side.rows;
+    let yscroll = registers::yscroll(regs.ctrl1);
+    let counts = side::only_counts(side, yscroll);
+    counts & !pen.changing & (border.disabled | !rows.display | (rows.rc != 0))
+}
+
+// How many ticks to skip before one that is done, with some left to do.
+fn skips(able: bool, cycle: u16, left: u64) -> u8
+    requires { ⌜ 0 < left ⌝ }
+    ensures { λ r. ⌜ r ≡ skipped able cycle left ⌝ }
+{
+    let within = able & (18 <= cycle) & (cycle <= 52);
+    if !within {
+        return 0;
+    }
+    let most = 53 - cycle;
+    if (most as u64) < left {
+        return most as u8;
+    }
+    (left - 1) as u8
+}
+
+fn leap(core: Core, k: u8) -> Core
+    requires { ⌜ inRange (core .side .bus .clock) ⌝ ∗ ⌜ core .side .beam .cycle < 64 ⌝ }
+    ensures { λ r. ⌜ r ≡ coreLater k core ⌝ }
+{
+    let side = core.side;
+    let pen = core.pen;
+    let later = side::leap(side, k);
+    Core {
+        side: later,
+        pen: pen,
+    }
+}
+
 // Ticks while each has a graphics access, as far as n and the clock go.
 fn lit_run(
     core: Core,
@@ -299,8 +344,11 @@ fn lit_run(
         if !lit {
             return Gone { done: i, core: now };
         }
+        let able = skippable(now, regs);
+        let k = skips(able, beam.cycle, n - i);
+        let later = leap(now, k);
         now = inner_lit(
-            now,
+            later,
             regs,
             matrix,
             pointers,
@@ -311,7 +359,7 @@ fn lit_run(
             colour,
             bank,
         );
-        i = i + 1;
+        i = i + 1 + k as u64;
     }
     Gone { done: i, core: now }
 }

@@ -1,9 +1,11 @@
 -- What callers may know of a turn and of VMLI's limit without opening them. Assumes nothing.
 use mathlib.Core.Path.{_≡_, sym, _∙_}
 use mathlib.Core.Bool.{Bool, true, false, not}
-use Prim.Native.Nat.{ℕ, _-_, _<_}
+use Prim.Native.Nat.{ℕ, _-_, _<_, _≤_}
+use native.Mathlib.Omega.{arith}
 use borrow.Author.Tests.{not-true, not-false}
-use Rattle.laws.proofs.Choice.{picks}
+use Rattle.laws.proofs.Choice.{either, picks}
+use Rattle.schedule.specs.Kind.{lastCycle}
 use Rattle.schedule.specs.Diagram.{happens, graphicsAccess, vmliCounts}
 use Rattle.schedule.proofs.Laws.{slot-small}
 use Rattle.schedule.proofs.Parts.{lit}
@@ -31,6 +33,11 @@ module _ (g : Controls) (s : Side) where
   pub dark-graphics : happens graphicsAccess (nextCycle (s .beam .cycle)) ≡ false → turned g s .orders .graphics ≡ false
   unfolding turned rowed
   dark-graphics e = e
+
+-- VMLI is far within its byte
+pub limit-small : (cycle : ℕ) → cycle ≤ lastCycle → vmliLimit cycle < 256
+unfolding vmliLimit
+limit-small cycle h = rw (picks (happens vmliCounts cycle) (cycle - 15) 40) (either (λ (n : ℕ). n < 256) (happens vmliCounts cycle) (omega arith) (omega arith))
 
 -- VMLI's limit where it does not count, and where it does
 module _ (cycle : ℕ) {counts : Bool} (e : counts ≡ happens vmliCounts cycle) where

@@ -1,4 +1,5 @@
 pub mod Glue
 pub mod Parts
+pub mod Counts
 pub mod Kept
 pub mod Laws

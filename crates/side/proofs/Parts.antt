@@ -9,7 +9,7 @@ use Rattle.laws.specs.Bits.{hasBit}
 use Rattle.laws.specs.Pick.{pick}
 use Rattle.laws.proofs.Choice.{picks}
 use Rattle.schedule.specs.Diagram.{happens, graphicsAccess, accessEnds}
-use Rattle.schedule.proofs.Parts.{Lit, Past, Dark, Later, Between, Calm, Still}
+use Rattle.schedule.proofs.Parts.{Lit, Past, Mid, Dark, Later, Between, Calm, Still}
 use Rattle.registers.specs.declared.Irq.{Irq}
 use Rattle.timing.specs.Beam.{nextCycle, badLine, baOutput}
 use Rattle.timing.proofs.Kept.{cycle-high}
@@ -55,6 +55,10 @@ module _ (c raster : ℕ) (my : List ℕ) (enable yexp : ℕ) (s : Sprites) wher
   pub sprites-lit : Lit c → firstAt c raster my enable yexp (stepAt c s) ≡ phased c raster my enable yexp s
   unfolding phased secondAt loadAt
   sprites-lit l = rw (l .second, l .load)
+
+  pub sprites-mid : Lit c → Mid c → s ≡ phased c raster my enable yexp s
+  unfolding phased stepAt firstAt secondAt loadAt
+  sprites-mid l m = rw (m .step, m .first, l .second, l .load)
 
   pub sprites-ends : Dark c → loadAt c raster my enable (secondAt c raster my enable yexp s) ≡ phased c raster my enable yexp s
   unfolding phased stepAt firstAt
@@ -135,6 +139,26 @@ module _ (c : ℕ) (bad rising : Bool) (r : Rows) where
   unfolding rowed accessAfter displayAfter rcAfter vcAfter vmliAfter
   rows-still wraps w s =
       rw (off wraps w, s .loads, s .chosen, s .over, s .ends, s .graphics, s .character, picks false (r .vcbase) (r .vc), picks false 0 (r .vmli), picks false 0 (r .rc), picks false 0 (r .vcbase), picks false (r .vc) (r .vcbase), and-true (r .transition), and-true (r .transition), and-true (r .access))
+
+or-false : (b : Bool) → (b || false) ≡ b
+or-false true = refl
+or-false false = refl
+
+-- between the left compares and the last graphics access, with nothing pending
+pub rows-mid : (c : ℕ) (r : Rows) → Lit c → Mid c → r .transition ≡ false → r .access ≡ false
+    → _≡_ {A = Rowed} (record {
+      rows = record { vc = vcAfter (r .display) (r .vc); vcbase = r .vcbase; rc = r .rc; vmli = vmliAfter (r .display) (r .vmli); display = r .display; transition = false; access = false };
+      vc = r .vc;
+      vmli = r .vmli;
+      rc = r .rc;
+      graphics = true;
+      moves = r .display;
+      waiting = false;
+      fetches = false;
+    }) (rowed c false false false r)
+unfolding rowed accessAfter displayAfter rcAfter
+rows-mid c r l m t a =
+    rw (t, a, or-false (r .display), l .loads, l .chosen, l .ends, m .graphics, l .character, m .over, picks false (r .vcbase) (r .vc), picks false 0 (r .vmli), picks false 0 (r .rc), picks false 0 (r .vcbase), picks false (r .vc) (r .vcbase), and-true (r .display))
 
 -- a turn with a graphics access: the line, the frame and the interrupt stay, and no slot is here
 pub lit-glue : (g : Controls) (s : Side) {clk bus : Bus} {cycle : ℕ} {bad ba asked mask : Bool} {border : Border} {ph : Sprites} {sprite : Sprite} {now : Rowed} {pending : Pending}

@@ -10,6 +10,7 @@ ghost use Rattle.side.specs.Frame.{freshFrame, frameBegun, frameEnded, r
 ghost use Rattle.side.specs.Rows.{freshRows, vcAfter, vmliAfter, rcAfter, accessAfter, displayAfter, rowed};
 ghost use Rattle.side.specs.Phases.{beginAt, left40At, left38At, right38At, right40At, rememberAt, endAt, bordered, stepAt, firstAt, secondAt, loadAt, phased, slotMoved};
 ghost use Rattle.side.specs.Turn.{controls, freshSide, turned};
+ghost use Rattle.side.specs.Leap.{onlyCounts, vcLater, vmliLater, leapt};
 use access::Pending;
 use arbitration::Bus;
 use border::Border;
@@ -785,5 +786,70 @@ pub fn turn_dark(
     Turned {
         side: next,
         orders: orders,
+    }
+}
+
+// ---- ticks that only count
+
+// Whether a tick after the left compares and before the last graphics access only counts.
+pub fn only_counts(side: Side, yscroll: u8) -> bool
+    ensures { λ r. ⌜ r ≡ onlyCounts yscroll side ⌝ }
+{
+    let beam = side.beam;
+    let frame = side.frame;
+    let bus = side.bus;
+    let rows = side.rows;
+    let bad = timing::bad_line(beam.raster, yscroll, frame.latch);
+    !bad & !bus.balow & !bus.aeclow & !rows.transition & !rows.access
+}
+
+fn vc_later(k: u8, moves: bool, vc: u16) -> u16
+    ensures { λ r. ⌜ r ≡ vcLater k moves vc ⌝ }
+{
+    if moves {
+        return (vc % 1024 + laws::wide(k)) % 1024;
+    }
+    vc
+}
+
+fn vmli_later(k: u8, moves: bool, vmli: u8) -> u8
+    ensures { λ r. ⌜ r ≡ vmliLater k moves vmli ⌝ }
+{
+    if moves {
+        return std::num::wrapping_add_u8(vmli, k);
+    }
+    vmli
+}
+
+// Some such ticks on.
+pub fn leap(side: Side, k: u8) -> Side
+    requires { ⌜ inRange (side .bus .clock) ⌝ ∗ ⌜ side .beam .cycle < 64 ⌝ }
+    ensures { λ r. ⌜ r ≡ leapt k side ⌝ }
+{
+    let mut beam = side.beam;
+    let mut bus = side.bus;
+    let mut rows = side.rows;
+    let irq = side.irq;
+    let frame = side.frame;
+    let border = side.border;
+    let sprites = side.sprites;
+    let pending = side.pending;
+    let clock = arbitration::clock_after(bus.clock, k);
+    let vc = vc_later(k, rows.display, rows.vc);
+    let vmli = vmli_later(k, rows.display, rows.vmli);
+    beam.cycle = beam.cycle + laws::wide(k);
+    bus.clock = clock;
+    rows.vc = vc;
+    rows.vmli = vmli;
+    Side {
+        irq: irq,
+        beam: beam,
+        frame: frame,
+        border: border,
+        sprites: sprites,
+        bus: bus,
+        rows: rows,
+        pending: pending,
+        changed: side.changed,
     }
 }

@@ -1,8 +1,11 @@
--- The two ways of one sprite's MCBASE step, and a slot's bytes. Assumes nothing.
+-- The two ways of one sprite's MCBASE step, a slot's bytes, and the last of the eight. Assumes nothing.
 use mathlib.Core.Path.{_≡_}
 use mathlib.Core.Bool.{Bool, true, false, _&&_}
-use Prim.Native.Nat.{ℕ, _+_, _%_}
+use mathlib.Core.List.{[], _∷_}
+use Prim.Native.Nat.{ℕ, _+_, _%_, _<_}
 use native.Mathlib.Omega.{arith}
+use lib.Dec.{eqb, eqb→eq}
+use Rattle.laws.proofs.Switch.{None, ones, rest}
 use Rattle.laws.specs.Bits.{hasBit, withoutBit}
 use Rattle.sprites.specs.declared.Sprite.{Sprite}
 use Rattle.sprites.specs.declared.Sprites.{Sprites}
@@ -29,3 +32,7 @@ module _ (s : Sprites) (k bytes : ℕ) {dma : Bool} (d : dma ≡ hasBit (s .dma)
   pub keeps : (dma && spriteAt s k .dma) ≡ false → s ≡ fetched k bytes s
   unfolding fetched fetches
   keeps off = rw (← d, off)
+
+-- the sprite that is none of the first seven
+pub last-one : (k : ℕ) → k < 8 → None (ones (6 ∷ 5 ∷ 4 ∷ 3 ∷ 2 ∷ 1 ∷ 0 ∷ [])) k → k ≡ 7
+last-one k h n = eqb→eq k 7 (rest (λ j. eqb j 7) (ones (6 ∷ 5 ∷ 4 ∷ 3 ∷ 2 ∷ 1 ∷ 0 ∷ [])) 8 tt k h n)

@@ -2,7 +2,7 @@
 ghost use mathlib.Core.Path.{_≡_};
 ghost use mathlib.Core.Bool.{Bool};
 ghost use Prim.Native.Nat.{_<_, _≤_};
-ghost use Rattle.sprites.specs.Sprites.{fresh, allFresh, spriteAt, crunched, nextBase, stepped, stepOne, mcbaseStepped, begun, startOne, started, firstPhased, secondPhased, loadOne, loaded, showOne, shown, mcLoaded, clearAfter, flipAfter, expandWritten, fetches, fetched};
+ghost use Rattle.sprites.specs.Sprites.{fresh, allFresh, spriteAt, spriteAt≔, crunched, nextBase, stepped, stepOne, mcbaseStepped, begun, startOne, started, firstPhased, secondPhased, loadOne, loaded, showOne, shown, mcLoaded, clearAfter, flipAfter, expandWritten, fetches, fetched};
 ghost use Rattle.sprites.specs.Fine.{fineOne, fineTest};
 
 pub struct Sprite {
@@ -90,28 +90,55 @@ impl Sprites {
         }
     }
 
-    // Sprite k's record.
+    // Sprite k's record. A place known beforehand leaves the eight records where they are; a place worked out does not.
     pub fn at(self, k: usize) -> Sprite
         requires { ⌜ k < 8 ⌝ }
         ensures { λ r. ⌜ r ≡ spriteAt self k ⌝ }
     {
-        self.each[k]
+        match k {
+            0 => self.each[0],
+            1 => self.each[1],
+            2 => self.each[2],
+            3 => self.each[3],
+            4 => self.each[4],
+            5 => self.each[5],
+            6 => self.each[6],
+            _ => self.each[7],
+        }
     }
 
-    fn step_one(mut self, k: usize) -> Self
+    // Another record for sprite k, in the same way.
+    fn put(mut self, k: usize, s: Sprite) -> Self
+        requires { ⌜ k < 8 ⌝ }
+        ensures { λ r. ⌜ r ≡ spriteAt≔ k s self ⌝ }
+    {
+        match k {
+            0 => self.each[0] = s,
+            1 => self.each[1] = s,
+            2 => self.each[2] = s,
+            3 => self.each[3] = s,
+            4 => self.each[4] = s,
+            5 => self.each[5] = s,
+            6 => self.each[6] = s,
+            _ => self.each[7] = s,
+        }
+        self
+    }
+
+    fn step_one(self, k: usize) -> Self
         requires { ⌜ k < 8 ⌝ }
         ensures { λ r. ⌜ r ≡ stepOne k self ⌝ }
     {
         let flip = laws::has_bit(self.flip, k);
         let clearing = laws::has_bit(self.clear, k);
-        let s = self.each[k];
+        let s = self.at(k);
         let t = s.step(flip, clearing);
-        self.each[k] = t;
+        let mut all = self.put(k, t);
         if t.dma {
-            return self;
+            return all;
         }
-        self.dma = laws::without_bit(self.dma, k);
-        self
+        all.dma = laws::without_bit(all.dma, k);
+        all
     }
 
     // The MCBASE step of all eight, with or without DMA.
@@ -129,20 +156,20 @@ impl Sprites {
         s
     }
 
-    fn begin(mut self, k: usize, yexp: u8) -> Self
+    fn begin(self, k: usize, yexp: u8) -> Self
         requires { ⌜ k < 8 ⌝ }
         ensures { λ r. ⌜ r ≡ begun k yexp self ⌝ }
     {
-        let mut s = self.each[k];
+        let mut s = self.at(k);
         s.base = 0;
         s.dma = true;
-        self.each[k] = s;
-        self.dma = laws::with_bit(self.dma, k);
+        let mut all = self.put(k, s);
+        all.dma = laws::with_bit(all.dma, k);
         if laws::has_bit(yexp, k) {
-            self.flip = laws::without_bit(self.flip, k);
-            return self;
+            all.flip = laws::without_bit(all.flip, k);
+            return all;
         }
-        self
+        all
     }
 
     fn start_one(self, k: usize, y: u8, line: u8, enable: u8, yexp: u8) -> Self
@@ -188,14 +215,13 @@ impl Sprites {
         s.start((raster % 256) as u8, my, enable, yexp)
     }
 
-    fn load_one(mut self, k: usize) -> Self
+    fn load_one(self, k: usize) -> Self
         requires { ⌜ k < 8 ⌝ }
         ensures { λ r. ⌜ r ≡ loadOne k self ⌝ }
     {
-        let mut s = self.each[k];
+        let mut s = self.at(k);
         s.mc = s.base;
-        self.each[k] = s;
-        self
+        self.put(k, s)
     }
 
     fn load(self) -> Self
@@ -284,16 +310,15 @@ impl Sprites {
     }
 
     // Sprite k's MC after its slot fetched some bytes.
-    pub fn fetch(mut self, k: usize, bytes: u8) -> Self
+    pub fn fetch(self, k: usize, bytes: u8) -> Self
         requires { ⌜ (k < 8) × (bytes < 4) ⌝ }
         ensures { λ r. ⌜ r ≡ fetched k bytes self ⌝ }
     {
-        let mut s = self.each[k];
+        let mut s = self.at(k);
         let on = laws::has_bit(self.dma, k) & s.dma;
         if on {
             s.mc = (s.mc % 64 + bytes) % 64;
-            self.each[k] = s;
-            return self;
+            return self.put(k, s);
         }
         self
     }

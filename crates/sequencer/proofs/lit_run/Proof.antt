@@ -1,4 +1,4 @@
-use mathlib.Core.Path.{sym, _∙_}
+use mathlib.Core.Path.{refl, sym, _∙_}
 use mathlib.Core.Bool.{Bool}
 use Prim.Native.Nat.{ℕ, _-_}
 use native.Mathlib.Omega.{arith}
@@ -6,9 +6,10 @@ use borrow.Author.Needs.{needs}
 use borrow.Author.Tests.{not-true, not-false}
 use Rattle.schedule.specs.Diagram.{happens, graphicsAccess}
 use Rattle.timing.specs.Beam.{nextCycle}
-use Rattle.sequencer.specs.Chip.{host, world}
-use Rattle.sequencer.proofs.Runs.{ready}
-use Rattle.sequencer.proofs.Staged.{Parting, started, tickable-now, further, stopped-at, ended-at}
+use Rattle.sequencer.specs.Chip.{host, world, chipOf}
+use Rattle.sequencer.proofs.Kept.{accepted-fine}
+use Rattle.sequencer.proofs.Staged.{Parting, started, stopped-at, ended-at}
+use Rattle.sequencer.proofs.Skip.{ready-later, lit-later, further-by, few, place, may}
 use Rattle.sequencer.proofs.lit_run.Statement.{statement}
 use Rattle.sequencer.proofs.lit_run.Tie as tie
 
@@ -48,23 +49,60 @@ returns c =
     let start = c .before .before .before .before .before .before .before .before .before .before .before .before .before in
     stopped-at (host (start .args .ram .now) (start .args .rom .now) (start .args .colour .now) (start .args .bank)) (start .args .regs) goes (world (start .args .core) (start .args .matrix .now) (start .args .pointers .now) (start .args .bytes .now) (start .args .words .now)) (start .args .n) (c .before .before .before .before .before .loop .inv) (sym (c .before .is-lit .ensures) ∙ not-true _ (c .if1 .taken))
 
+skippable-requires : tie.Need-skippable-requires Inv-loop μ-loop
+skippable-requires c κs = search needs
+
+sub-skips : tie.Need-sub-skips Inv-loop μ-loop
+sub-skips c = omega (arith, c .before .before .before .before .before .loop-test .taken)
+
+skips-requires : tie.Need-skips-requires Inv-loop μ-loop
+skips-requires c κs = omega (arith, c .before .before .before .before .before .loop-test .taken)
+
+leap-requires : tie.Need-leap-requires Inv-loop μ-loop
+leap-requires c κs =
+    let start = c .before .before .before .before .before .before .before .before .before .before .before .before .before .before .before in
+    let h = host (start .args .ram .now) (start .args .rom .now) (start .args .colour .now) (start .args .bank) in
+    let w = world (start .args .core) (start .args .matrix .now) (start .args .pointers .now) (start .args .bytes .now) (start .args .words .now) in
+    let fine = accepted-fine _ (c .before .before .before .before .before .before .before .loop .inv .going .held .fine) .side in
+    (fine .clock, omega (arith, fine .high))
+
 inner-lit-requires : tie.Need-inner-lit-requires Inv-loop μ-loop
 inner-lit-requires c κs =
-    let start = c .before .before .before .before .before .before .before .before .before .before .before .before .before .before .before .before .before in
-    let inv = c .before .before .before .before .before .before .before .before .before .loop .inv in
-    (ready (inv .going .held) (tickable-now (host (start .args .ram .now) (start .args .rom .now) (start .args .colour .now) (start .args .bank)) (start .args .regs) goes (world (start .args .core) (start .args .matrix .now) (start .args .pointers .now) (start .args .bytes .now) (start .args .words .now)) (start .args .n) inv (c .before .before .before .before .before .before .before .before .loop-test .taken)), sym (c .before .before .before .before .before .is-lit .ensures) ∙ not-false _ (c .before .before .before .before .if1 .left))
+    let start = c .before .before .before .before .before .before .before .before .before .before .before .before .before .before .before .before .before .before .before .before in
+    let h = host (start .args .ram .now) (start .args .rom .now) (start .args .colour .now) (start .args .bank) in
+    let w = world (start .args .core) (start .args .matrix .now) (start .args .pointers .now) (start .args .bytes .now) (start .args .words .now) in
+    let loop = c .before .before .before .before .before .before .before .before .before .before .before .before .loop in
+    let k = c .before .before .before .before .before .skips .result in
+    let count = c .before .before .before .before .before .skips .ensures in
+    let lit = sym (c .before .before .before .before .before .before .before .before .is-lit .ensures) ∙ not-false _ (c .before .before .before .before .before .before .before .if1 .left) in
+    rw (c .before .before .before .before .leap .ensures)
+    (ready-later h (start .args .regs) goes w (start .args .n) k (loop .inv) (few (c .before .before .before .before .before .before .skippable .result) (c .before .before .before .before .before .before .before .before .before .before .before .before .loop .now .side .beam .cycle) (c .before .before .before .before .before .before .before .before .before .before .before .before .loop .i) (c .before .before .before .before .before .before .before .before .before .before .before .before .before .before .before .before .before .before .before .before .args .n) count (c .before .before .before .before .before .before .before .before .before .before .before .loop-test .taken)), lit-later (loop .now .side .beam .cycle) k (place (c .before .before .before .before .before .before .skippable .result) (c .before .before .before .before .before .before .before .before .before .before .before .before .loop .now .side .beam .cycle) (c .before .before .before .before .before .before .before .before .before .before .before .before .loop .i) (c .before .before .before .before .before .before .before .before .before .before .before .before .before .before .before .before .before .before .before .before .args .n) count) lit)
 
 add-i : tie.Need-add-i Inv-loop μ-loop
-add-i c = omega (arith, c .before .before .before .before .before .before .before .before .before .before .before .before .before .before .before .before .before .before .before .before .before .before .before .before .before .before .fits .n, c .before .before .before .before .before .before .before .before .before .before .before .before .before .before .before .before .before .loop-test .taken)
+add-i c = omega (arith, c .before .before .before .before .before .before .before .before .before .before .before .before .before .before .before .before .before .before .before .before .before .before .before .before .before .before .before .before .before .fits .n, c .before .before .before .before .before .before .before .before .before .before .before .before .before .before .before .before .before .before .before .before .loop-test .taken)
+
+cast-i : tie.Need-cast-i Inv-loop μ-loop
+cast-i c = search needs
+
+add-i-2 : tie.Need-add-i-2 Inv-loop μ-loop
+add-i-2 c = omega (arith, c .before .before .before .before .before .before .before .before .before .before .before .before .before .before .before .before .before .before .before .before .before .before .before .before .before .before .before .before .before .fits .n, few (c .before .before .before .before .before .before .before .before .before .before .before .before .before .before .before .skippable .result) (c .before .before .before .before .before .before .before .before .before .before .before .before .before .before .before .before .before .before .before .before .before .loop .now .side .beam .cycle) (c .before .before .before .before .before .before .before .before .before .before .before .before .before .before .before .before .before .before .before .before .before .loop .i) (c .before .before .before .before .before .before .before .before .before .before .before .before .before .before .before .before .before .before .before .before .before .before .before .before .before .before .before .before .before .args .n) (c .before .before .before .before .before .before .before .before .before .before .before .before .before .before .skips .ensures) (c .before .before .before .before .before .before .before .before .before .before .before .before .before .before .before .before .before .before .before .before .loop-test .taken))
 
 loop-less : tie.Need-loop-less Inv-loop μ-loop
-loop-less c = omega (arith, c .before .before .before .before .before .before .before .before .before .before .before .before .before .before .before .before .before .loop-test .taken)
+loop-less c = omega (arith, c .before .before .before .before .before .before .before .before .before .before .before .before .before .before .before .before .before .before .before .before .loop-test .taken)
 
 loop-again : tie.Need-loop-again Inv-loop μ-loop
 loop-again c =
-    let start = c .before .before .before .before .before .before .before .before .before .before .before .before .before .before .before .before .before .before .before .before .before .before .before .before .before .before in
+    let start = c .before .before .before .before .before .before .before .before .before .before .before .before .before .before .before .before .before .before .before .before .before .before .before .before .before .before .before .before .before in
+    let h = host (start .args .ram .now) (start .args .rom .now) (start .args .colour .now) (start .args .bank) in
+    let w = world (start .args .core) (start .args .matrix .now) (start .args .pointers .now) (start .args .bytes .now) (start .args .words .now) in
+    let loop = c .before .before .before .before .before .before .before .before .before .before .before .before .before .before .before .before .before .before .before .before .before .loop in
+    let k = c .before .before .before .before .before .before .before .before .before .before .before .before .before .before .skips .result in
+    let count = c .before .before .before .before .before .before .before .before .before .before .before .before .before .before .skips .ensures in
     let inner = c .before .before .before .before .before .before .before .before .inner-lit in
-    further (host (start .args .ram .now) (start .args .rom .now) (start .args .colour .now) (start .args .bank)) (start .args .regs) goes (world (start .args .core) (start .args .matrix .now) (start .args .pointers .now) (start .args .bytes .now) (start .args .words .now)) (start .args .n) (c .before .before .before .before .before .before .before .before .before .before .before .before .before .before .before .before .before .before .loop .inv) (c .before .before .before .before .before .before .before .before .before .before .before .before .before .before .before .before .before .loop-test .taken) (inner .ensures)
+    let now = world (loop .now) (loop .matrix) (loop .pointers) (loop .bytes) (loop .words) in
+    further-by h (start .args .regs) goes w (start .args .n) k (loop .inv) (few (c .before .before .before .before .before .before .before .before .before .before .before .before .before .before .before .skippable .result) (c .before .before .before .before .before .before .before .before .before .before .before .before .before .before .before .before .before .before .before .before .before .loop .now .side .beam .cycle) (c .before .before .before .before .before .before .before .before .before .before .before .before .before .before .before .before .before .before .before .before .before .loop .i) (c .before .before .before .before .before .before .before .before .before .before .before .before .before .before .before .before .before .before .before .before .before .before .before .before .before .before .before .before .before .args .n) count (c .before .before .before .before .before .before .before .before .before .before .before .before .before .before .before .before .before .before .before .before .loop-test .taken))
+    (may (start .args .regs) (loop .now) now (c .before .before .before .before .before .before .before .before .before .before .before .before .before .before .before .skippable .result) (loop .i) (start .args .n) refl refl (c .before .before .before .before .before .before .before .before .before .before .before .before .before .before .before .skippable .ensures) count)
+    (rw (c .before .before .before .before .before .before .before .before .before .before .before .before .before .leap .ensures) at (inner .ensures))
     (inner .kept .1 .1 .0) (inner .kept .1 .1 .1 .0) (inner .kept .1 .1 .1 .1 .0) (inner .kept .1 .1 .1 .1 .1 .0)
 
 same-length-5 : tie.Need-same-length-5 Inv-loop μ-loop
@@ -97,8 +135,14 @@ lit-run-spec =
     same-length-3
     same-length-4
     returns
+    skippable-requires
+    sub-skips
+    skips-requires
+    leap-requires
     inner-lit-requires
     add-i
+    cast-i
+    add-i-2
     loop-less
     loop-again
     same-length-5

@@ -1,19 +1,13 @@
-use Rattle.sprites.specs.Sprites.{begun, spriteAt}
+use Rattle.sprites.specs.Sprites.{begun}
 use borrow.Author.Needs.{needs}
 use Rattle.sprites.proofs.Sprites.begin.Statement.{statement}
 use Rattle.sprites.proofs.Sprites.begin.Tie as tie
 
-mul-s : tie.Need-mul-s
-mul-s c = search needs
+at-requires : tie.Need-at-requires
+at-requires c κs = search needs
 
-element-copy-out-s : tie.Need-element-copy-out-s
-element-copy-out-s c = search needs
-
-mul-s-2 : tie.Need-mul-s-2
-mul-s-2 c = search needs
-
-element-set-from-s : tie.Need-element-set-from-s
-element-set-from-s c = search needs
+put-requires : tie.Need-put-requires
+put-requires c κs = search needs
 
 with-bit-requires : tie.Need-with-bit-requires
 with-bit-requires c κs = search needs
@@ -25,21 +19,19 @@ without-bit-requires : tie.Need-without-bit-requires
 without-bit-requires c κs = search needs
 
 returns : tie.Need-returns
-unfolding begun spriteAt
-returns c = simp (c .without-bit .ensures, ← c .before .before .has-bit .ensures, c .before .if1 .taken, c .before .before .before .with-bit .ensures)
+unfolding begun
+returns c = simp (c .without-bit .ensures, ← c .before .before .has-bit .ensures, c .before .if1 .taken, c .before .before .before .with-bit .ensures, c .before .before .before .before .put .ensures, c .before .before .before .before .before .at .ensures)
 
 returns-2 : tie.Need-returns-2
-unfolding begun spriteAt
-returns-2 c = simp (← c .before .has-bit .ensures, c .if1 .left, c .before .before .with-bit .ensures)
+unfolding begun
+returns-2 c = simp (← c .before .has-bit .ensures, c .if1 .left, c .before .before .with-bit .ensures, c .before .before .before .put .ensures, c .before .before .before .before .at .ensures)
 
 pub begin-spec : {M : Type 1} → statement M
 begin-spec =
     tie.close
     (tie.spec
-    mul-s
-    element-copy-out-s
-    mul-s-2
-    element-set-from-s
+    at-requires
+    put-requires
     with-bit-requires
     has-bit-requires
     without-bit-requires

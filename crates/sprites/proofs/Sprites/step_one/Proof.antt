@@ -1,5 +1,4 @@
 use Rattle.sprites.proofs.Steps.{on, off}
-use Rattle.sprites.specs.Sprites.{spriteAt}
 use borrow.Author.Needs.{needs}
 use Rattle.sprites.proofs.Sprites.step_one.Statement.{statement}
 use Rattle.sprites.proofs.Sprites.step_one.Tie as tie
@@ -10,31 +9,29 @@ has-bit-requires c κs = search needs
 has-bit-requires-2 : tie.Need-has-bit-requires-2
 has-bit-requires-2 c κs = search needs
 
-mul-s : tie.Need-mul-s
-mul-s c = search needs
-
-element-copy-out-s : tie.Need-element-copy-out-s
-element-copy-out-s c = search needs
+at-requires : tie.Need-at-requires
+at-requires c κs = search needs
 
 step-requires : tie.Need-step-requires
 step-requires c κs = search needs
 
-mul-t : tie.Need-mul-t
-mul-t c = search needs
-
-element-set-from-t : tie.Need-element-set-from-t
-element-set-from-t c = search needs
+put-requires : tie.Need-put-requires
+put-requires c κs = search needs
 
 returns : tie.Need-returns
-unfolding spriteAt
-returns c = on (c .before .before .before .before .before .args .t1) (c .before .before .before .before .before .args .k) (c .before .before .before .before .has-bit .ensures) (c .before .before .before .has-bit2 .ensures) (c .before .step .ensures) (c .if1 .taken)
+returns c =
+    let start = c .before .before .before .before .before .before in
+    let at = c .before .before .before .at .ensures in
+    rw (c .before .put .ensures) (on (start .args .self) (start .args .k) (c .before .before .before .before .before .has-bit .ensures) (c .before .before .before .before .has-bit2 .ensures) (rw at at (c .before .before .step .ensures)) (c .if1 .taken))
 
 without-bit-requires : tie.Need-without-bit-requires
 without-bit-requires c κs = search needs
 
 returns-2 : tie.Need-returns-2
-unfolding spriteAt
-returns-2 c = rw (c .without-bit .ensures) (off (c .before .before .before .before .before .before .args .t1) (c .before .before .before .before .before .before .args .k) (c .before .before .before .before .before .has-bit .ensures) (c .before .before .before .before .has-bit2 .ensures) (c .before .before .step .ensures) (c .before .if1 .left))
+returns-2 c =
+    let start = c .before .before .before .before .before .before .before in
+    let at = c .before .before .before .before .at .ensures in
+    rw (c .without-bit .ensures, c .before .before .put .ensures) (off (start .args .self) (start .args .k) (c .before .before .before .before .before .before .has-bit .ensures) (c .before .before .before .before .before .has-bit2 .ensures) (rw at at (c .before .before .before .step .ensures)) (c .before .if1 .left))
 
 pub step-one-spec : {M : Type 1} → statement M
 step-one-spec =
@@ -42,11 +39,9 @@ step-one-spec =
     (tie.spec
     has-bit-requires
     has-bit-requires-2
-    mul-s
-    element-copy-out-s
+    at-requires
     step-requires
-    mul-t
-    element-set-from-t
+    put-requires
     returns
     without-bit-requires
     returns-2)

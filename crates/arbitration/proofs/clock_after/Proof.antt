@@ -1,0 +1,29 @@
+use Rattle.arbitration.specs.Bus.{clockAfter}
+use mir.Facts.{toZ-ofZ}
+use borrow.Author.Needs.{needs}
+use Rattle.arbitration.proofs.Counting.{some-on, some-on-is}
+use Rattle.arbitration.proofs.clock_after.Statement.{statement}
+use Rattle.arbitration.proofs.clock_after.Tie as tie
+
+wide-requires : tie.Need-wide-requires
+wide-requires c κs = search needs
+
+mul-result : tie.Need-mul-result
+mul-result c = search needs
+
+cast-result : tie.Need-cast-result
+cast-result c = search needs
+
+add-result : tie.Need-add-result
+add-result c =
+    let start = c .before in
+    rw (c .wide .ensures, toZ-ofZ (start .fits .clock)) (some-on (start .args .clock) (start .args .k) (start .pre) (start .fits .k))
+
+returns : tie.Need-returns
+unfolding clockAfter
+returns c =
+    let start = c .before in
+    rw (c .wide .ensures, toZ-ofZ (start .fits .clock)) (some-on-is (start .args .clock) (start .args .k) (start .pre) (start .fits .k))
+
+pub clock-after-spec : {M : Type 1} → statement M
+clock-after-spec = tie.close (tie.spec wide-requires mul-result cast-result add-result returns)

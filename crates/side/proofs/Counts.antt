@@ -1,0 +1,186 @@
+-- A tick that only counts, and any number of them: counted first and ticked once is ticked one by one. Assumes nothing.
+use Prim.Native.Nat.{ℕ, zero, suc, _+_, _%_, _<_, _≤_}
+use mathlib.Core.Path.{_≡_, refl, sym, _∙_}
+use mathlib.Core.Bool.{Bool, true, false, not, _&&_, _||_, cond}
+use native.Mathlib.Omega.{arith}
+use lib.Dec.{eqb, leb}
+use lib.IntN.{ℤ, pos}
+use borrow.Author.Tests.{le-leb, not-true}
+use Rattle.laws.specs.Bits.{hasBit}
+use Rattle.laws.specs.Clock.{inRange}
+use Rattle.laws.proofs.Choice.{left, right}
+use Rattle.schedule.specs.Diagram.{happens, graphicsAccess}
+use Rattle.schedule.proofs.Parts.{Mid, mid, lit, past}
+use Rattle.timing.specs.Beam.{nextCycle, badLine}
+use Rattle.timing.proofs.Kept.{cycle-next, ba-high}
+use Rattle.sprites.specs.Sprites.{spriteAt}
+use Rattle.arbitration.specs.Bus.{clockOn, clockAfter}
+use Rattle.arbitration.proofs.Kept.{matrix-alone, free-bus, clock-after-none, clock-after-one-more}
+use Rattle.access.proofs.Laws.{none-missed}
+use Rattle.side.specs.declared.Side.{Side}
+use Rattle.side.specs.declared.Turned.{Turned}
+use Rattle.side.specs.Rows.{vcAfter, vmliAfter}
+use Rattle.side.specs.Turn.{Controls, turned}
+use Rattle.side.specs.Leap.{onlyCounts, vcLater, vmliLater, leapt}
+use Rattle.side.proofs.Parts.{border-past, sprites-mid, rows-mid, lit-glue}
+
+-- the test, and where on the line it is used
+pub record Counts (yscroll : ℕ) (s : Side) : Type 0 where
+  pub bad : badLine (s .beam .raster) yscroll (s .frame .latch) ≡ false
+  pub balow : s .bus .balow ≡ false
+  pub aeclow : s .bus .aeclow ≡ false
+  pub transition : s .rows .transition ≡ false
+  pub access : s .rows .access ≡ false
+  pub low : 18 ≤ s .beam .cycle
+  pub high : s .beam .cycle ≤ 53
+
+off : (b : Bool) → not b ≡ true → b ≡ false
+off true e = sym e
+off false e = refl
+
+pub counts : (yscroll : ℕ) (s : Side) → onlyCounts yscroll s ≡ true → 18 ≤ s .beam .cycle → s .beam .cycle ≤ 53 → Counts yscroll s
+unfolding onlyCounts
+counts yscroll s e l h =
+    let a = not (badLine (s .beam .raster) yscroll (s .frame .latch)) in
+    let b = not (s .bus .balow) in
+    let c = not (s .bus .aeclow) in
+    let d = not (s .rows .transition) in
+    let f = not (s .rows .access) in
+    let four = left (a && b && c && d) f e in
+    let three = left (a && b && c) d four in
+    let two = left (a && b) c three in
+    record {
+      bad = off (badLine (s .beam .raster) yscroll (s .frame .latch)) (left a b two);
+      balow = off (s .bus .balow) (right a b two);
+      aeclow = off (s .bus .aeclow) (right (a && b) c three);
+      transition = off (s .rows .transition) (right (a && b && c) d four);
+      access = off (s .rows .access) (right (a && b && c && d) f e);
+      low = l;
+      high = h;
+    }
+
+-- what such a tick leaves
+abbrev pub quiet : Controls → Side → Turned
+quiet g s =
+    let cycle = nextCycle (s .beam .cycle) in
+    let rows = s .rows in
+    let vc = vcAfter (rows .display) (rows .vc) in
+    let vmli = vmliAfter (rows .display) (rows .vmli) in
+    record {
+      side = record {
+        irq = s .irq;
+        beam = record { cycle = cycle; raster = s .beam .raster; den = g .den; rsel = g .rsel; yscroll = g .yscroll; bad = false; rising = false; ba = true };
+        frame = s .frame;
+        border = s .border;
+        sprites = s .sprites;
+        bus = record { clock = clockOn (s .bus .clock); fall = s .bus .fall; rise = s .bus .rise; aec = pos 3; balow = false; aeclow = false };
+        rows = record { vc = vc; vcbase = rows .vcbase; rc = rows .rc; vmli = vmli; display = rows .display; transition = false; access = false };
+        pending = s .pending;
+        changed = s .irq .line;
+      };
+      orders = record {
+        cycle = cycle;
+        graphics = true;
+        moves = rows .display;
+        waiting = false;
+        plain = not (eqb (rows .rc) 0);
+        hidden = s .border .disabled;
+        vc = rows .vc;
+        vmli = rows .vmli;
+        rc = rows .rc;
+        fills = false;
+        place = vmli;
+        column = vc;
+        sprite = 0;
+        pointing = false;
+        fetching = false;
+        mask = hasBit (s .sprites .dma) 0;
+        flag = spriteAt (s .sprites) 0 .dma;
+        mc = spriteAt (s .sprites) 0 .mc;
+        low = s .bus .aeclow;
+      };
+    }
+
+on-line : (s : Side) (y : ℕ) → Counts y s → Mid (nextCycle (s .beam .cycle))
+on-line s y e =
+    let next = cycle-next (s .beam .cycle) (omega (arith, e .high)) in
+    mid (nextCycle (s .beam .cycle)) (rw (next, le-leb 19 (s .beam .cycle + 1) (omega (arith, e .low)), le-leb (s .beam .cycle + 1) 54 (omega (arith, e .high))) refl)
+
+pub quiet-turn : (g : Controls) (s : Side) → Counts (g .yscroll) s → quiet g s ≡ turned g s
+quiet-turn g s e =
+    let cycle = nextCycle (s .beam .cycle) in
+    let m = on-line s (g .yscroll) e in
+    let l = lit cycle (m .graphics) in
+    lit-glue g s l refl refl (sym (e .bad)) (border-past cycle (s .beam .raster) (g .den) (g .csel) (s .border) l (m .past))
+    (sprites-mid cycle (s .beam .raster) (g .my) (g .enable) (g .yexp) (s .sprites) l m) (ba-high cycle)
+    (matrix-alone true (s .sprites .dma) cycle (m .asks)) (free-bus (s .bus) (e .balow)) refl refl
+    (rows-mid cycle (s .rows) l m (e .transition) (e .access)) (none-missed _ (s .pending))
+
+-- a leap changes none of what the test looks at
+pub counts-later : (g : Controls) (s : Side) (k : ℕ) → Counts (g .yscroll) s → s .beam .cycle + k ≤ 53 → Counts (g .yscroll) (leapt k s)
+counts-later g s k e h = record { bad = e .bad; balow = e .balow; aeclow = e .aeclow; transition = e .transition; access = e .access; low = omega (arith, e .low); high = h }
+
+-- nor does the tick
+pub counts-on : (g : Controls) (s : Side) → Counts (g .yscroll) s → s .beam .cycle + 1 ≤ 53 → Counts (g .yscroll) (quiet g s .side)
+counts-on g s e h =
+    let next = cycle-next (s .beam .cycle) (omega arith) in
+    record { bad = e .bad; balow = refl; aeclow = refl; transition = refl; access = refl; low = rw next (omega (arith, e .low)); high = rw next h }
+
+vc-later : (k : ℕ) (moves : Bool) (vc : ℕ) → vcLater k moves (vcAfter moves vc) ≡ vcLater (suc k) moves vc
+unfolding vcLater vcAfter
+vc-later k true vc = omega arith
+vc-later k false vc = refl
+
+vmli-later : (k : ℕ) (moves : Bool) (vmli : ℕ) → vmliLater k moves (vmliAfter moves vmli) ≡ vmliLater (suc k) moves vmli
+unfolding vmliLater vmliAfter
+vmli-later k true vmli = omega arith
+vmli-later k false vmli = refl
+
+-- what is counted after the tick, or before it
+pub quiet-later : (g : Controls) (s : Side) (k : ℕ) → Counts (g .yscroll) s → inRange (s .bus .clock) → quiet g (leapt k (quiet g s .side)) ≡ quiet g (leapt (suc k) s)
+quiet-later g s k e r =
+    let next = cycle-next (s .beam .cycle) (omega (arith, e .high)) in
+    let cycle : nextCycle (s .beam .cycle) + k ≡ s .beam .cycle + suc k = rw next (omega arith) in
+    rw (cycle, e .aeclow, clock-after-one-more k (s .bus .clock) r, vc-later k (s .rows .display) (s .rows .vc), vmli-later k (s .rows .display) (s .rows .vmli)) refl
+
+pub leap-turn : (g : Controls) (s : Side) (k : ℕ) → Counts (g .yscroll) s → inRange (s .bus .clock) → s .beam .cycle + suc k ≤ 53
+    → turned g (leapt k (turned g s .side)) ≡ turned g (leapt (suc k) s)
+leap-turn g s k e r h =
+    let next = cycle-next (s .beam .cycle) (omega (arith, e .high)) in
+    let q : quiet g s .side .beam .cycle + k ≤ 53 = rw next (omega (arith, h)) in
+    rw (← quiet-turn g s e)
+    (sym (quiet-turn g (leapt k (quiet g s .side)) (counts-later g (quiet g s .side) k (counts-on g s e (omega (arith, h))) q))
+    ∙ quiet-later g s k e r
+    ∙ quiet-turn g (leapt (suc k) s) (counts-later g s (suc k) e h))
+
+-- no tick at all
+pub leap-none : (s : Side) → inRange (s .bus .clock) → s .rows .vc < 1024 → s .rows .vmli < 256 → leapt 0 s ≡ s
+unfolding vcLater vmliLater
+leap-none s r a b =
+    let cycle : s .beam .cycle + 0 ≡ s .beam .cycle = omega arith in
+    let vc : (s .rows .vc + 0) % 1024 ≡ s .rows .vc = omega arith in
+    let vmli : (s .rows .vmli + 0) % 256 ≡ s .rows .vmli = omega arith in
+    rw (cycle, clock-after-none (s .bus .clock) r, vc, vmli, same (s .rows .display) (s .rows .vc), same (s .rows .display) (s .rows .vmli)) refl
+  where
+    same : (b : Bool) (n : ℕ) → cond b n n ≡ n
+    same true n = refl
+    same false n = refl
+
+-- a leap from what its calls gave
+pub leap-glue : (s : Side) (k : ℕ) {clock : ℤ} {wide vc vmli : ℕ}
+    → clock ≡ clockAfter k (s .bus .clock)
+    → vc ≡ vcLater k (s .rows .display) (s .rows .vc)
+    → vmli ≡ vmliLater k (s .rows .display) (s .rows .vmli)
+    → wide ≡ k
+    → _≡_ {A = Side} (record {
+      irq = s .irq;
+      beam = record { cycle = s .beam .cycle + wide; raster = s .beam .raster; den = s .beam .den; rsel = s .beam .rsel; yscroll = s .beam .yscroll; bad = s .beam .bad; rising = s .beam .rising; ba = s .beam .ba };
+      frame = s .frame;
+      border = s .border;
+      sprites = s .sprites;
+      bus = record { clock = clock; fall = s .bus .fall; rise = s .bus .rise; aec = s .bus .aec; balow = s .bus .balow; aeclow = s .bus .aeclow };
+      rows = record { vc = vc; vcbase = s .rows .vcbase; rc = s .rows .rc; vmli = vmli; display = s .rows .display; transition = s .rows .transition; access = s .rows .access };
+      pending = s .pending;
+      changed = s .changed;
+    }) (leapt k s)
+leap-glue s k clock vc vmli wide = rw (← clock, ← vc, ← vmli, wide)
