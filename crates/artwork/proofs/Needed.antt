@@ -5,6 +5,7 @@ use mathlib.Core.Bool.{true, false}
 use mathlib.Core.List.{_∷_}
 use lib.IntN.{ℤ, pos, negsuc}
 use Rattle.laws.specs.Bits.{hasBit, withBit, withoutBit}
+use Rattle.laws.specs.Lists.{zeros}
 use Rattle.laws.specs.Pick.{pick}
 use Rattle.registers.specs.Registers.{latch, written}
 use Rattle.registers.specs.Irq.{quiet, asked, settled, triggered, irqWritten}
@@ -24,7 +25,7 @@ use Rattle.side.specs.Fine.{vmliLimit}
 use Rattle.side.specs.Turn.{turned}
 use Rattle.sequencer.specs.declared.Chip.{Chip}
 use Rattle.sequencer.specs.declared.Answer.{Answer}
-use Rattle.sequencer.specs.Chip.{Host, zeros, timed}
+use Rattle.sequencer.specs.Chip.{Host, timed}
 use Rattle.sequencer.specs.Accept.{accepted, aecFine, clockFine, tickable, placeFine}
 use Rattle.sequencer.specs.Tick.{lentRefusal}
 use Rattle.sequencer.specs.Calls.{registerWritten, expandAt, controlsPlaced, displayPlaced}

@@ -28,6 +28,23 @@ right true b e = e
 right false true e = refl
 right false false e = e
 
+-- a test beside one that is settled
+pub and-true : (b : Bool) → (b && true) ≡ b
+and-true true = refl
+and-true false = refl
+
+pub and-false : (b : Bool) → (b && false) ≡ false
+and-false true = refl
+and-false false = refl
+
+pub or-false : (b : Bool) → (b || false) ≡ b
+or-false true = refl
+or-false false = refl
+
+pub never-both : (b : Bool) → (b && not b) ≡ false
+never-both true = refl
+never-both false = refl
+
 -- a choice that stays shut is the choice
 pub picks : {A : Type 0} (b : Bool) (x y : A) → pick b x y ≡ cond b x y
 unfolding pick

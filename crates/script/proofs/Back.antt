@@ -8,7 +8,7 @@ use lib.Dec.{eqb, leb}
 use lib.ListN.{length}
 use native.Mathlib.Decide.{decLt}
 use borrow.Author.Tests.{le-ltb, eq-eqb, ne-eqb, eqb-true, leb-true}
-use Rattle.laws.proofs.Choice.{left, right}
+use Rattle.laws.proofs.Choice.{left, right, and-true}
 use Rattle.script.specs.declared.Step.{Step}
 use Rattle.script.specs.declared.Step.the-variants.{Tick, Write, Expand, Controls, Late, Borders, Display, Bank}
 use Rattle.script.specs.declared.Read.the-variants.{Got, Refused}
@@ -29,10 +29,6 @@ flag-small false = refl
 flag-back : (flag : Bool) → eqb (byteOf flag) 1 ≡ flag
 flag-back true = refl
 flag-back false = refl
-
-and-true : (b : Bool) → (b && true) ≡ b
-and-true true = refl
-and-true false = refl
 
 -- 01, Run file: what is written down is read back, and what is not allowed is refused
 pub read-back : (step : Step) (more : List ℕ) → stepOf (bytesOf step ++ more) ≡ allowedIf (allowed step) step

@@ -1,9 +1,10 @@
 -- What an accepted state's tests say of its numbers. Assumes nothing.
 use mathlib.Core.Path.{_≡_, refl, sym, _∙_}
-use mathlib.Core.Bool.{Bool, true, false, _&&_, false≢true}
+use mathlib.Core.Bool.{Bool, true, false, false≢true}
 use lib.IntN.{ℤ, pos, negsuc}
 use borrow.Author.Tests.{eqb-true, leb-true, ltb-true, eq-eqb, le-leb, lt-ltb}
 use Rattle.laws.specs.Clock.{inRange, canTick}
+use Rattle.laws.proofs.Choice.{and-false}
 use Rattle.arbitration.specs.Bus.{Counted}
 use Rattle.access.specs.declared.Pending.{Pending}
 use Rattle.access.specs.declared.Pending.the-variants.{Nothing, At}
@@ -50,10 +51,6 @@ pends-place-fine (At p) h = lt-ltb p 40 h
 pub unless : (t b : Bool) → (t ≡ false → b ≡ false) → b ≡ true → t ≡ true
 unless true b f e = refl
 unless false b f e = absurd (false≢true (sym (f refl) ∙ e))
-
-pub and-false : (b : Bool) → (b && false) ≡ false
-and-false true = refl
-and-false false = refl
 
 module _ (c : Chip) (e : accepted c ≡ true) where
   pub accepted-forced : clockFine (c .picture .pen .forced) ≡ true

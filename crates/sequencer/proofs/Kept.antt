@@ -7,7 +7,7 @@ use borrow.Author.Tests.{leb-true, le-leb, ltb-false}
 use lib.Dec.{leb, ltb}
 use lib.IntN.{ℤ}
 use Rattle.laws.specs.Clock.{inRange}
-use Rattle.laws.proofs.Choice.{either, by-test}
+use Rattle.laws.proofs.Choice.{either, by-test, and-false}
 use Rattle.schedule.specs.Kind.{lastCycle, lastLine}
 use Rattle.registers.specs.declared.Registers.{Registers}
 use Rattle.registers.proofs.Kept.{compare-kept}
@@ -24,7 +24,7 @@ use Rattle.sequencer.specs.Chip.{Host, World, worldOf, chipOf, timed, po
 use Rattle.sequencer.specs.Accept.{aecFine, clockFine, tickable, accepted}
 use Rattle.sequencer.specs.Tick.{tickWorld, tickOf}
 use Rattle.sequencer.specs.Calls.{registerWritten, expandAt, comparesBy, controlsPlaced, displayPlaced, lateAt, lateTaken}
-use Rattle.sequencer.proofs.Accepted.{clock-fine-range, range-clock-fine, tickable-can, aec-fine-counted, counted-aec-fine, place-fine-pends, pends-place-fine, unless, and-false, accepted-forced, accepted-clock, accepted-place}
+use Rattle.sequencer.proofs.Accepted.{clock-fine-range, range-clock-fine, tickable-can, aec-fine-counted, counted-aec-fine, place-fine-pends, pends-place-fine, unless, accepted-forced, accepted-clock, accepted-place}
 
 -- what the acceptance says, as facts
 pub record Fine (c : Chip) : Type 0 where

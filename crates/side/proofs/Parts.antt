@@ -7,7 +7,7 @@ use native.Mathlib.Omega.{arith}
 use lib.Dec.{eqb}
 use Rattle.laws.specs.Bits.{hasBit}
 use Rattle.laws.specs.Pick.{pick}
-use Rattle.laws.proofs.Choice.{picks}
+use Rattle.laws.proofs.Choice.{picks, and-true, and-false, never-both}
 use Rattle.schedule.specs.Diagram.{happens, graphicsAccess, accessEnds}
 use Rattle.schedule.proofs.Parts.{Lit, Past, Dark, Later, Between, Calm, Still}
 use Rattle.registers.specs.declared.Irq.{Irq}
@@ -63,18 +63,6 @@ module _ (c raster : ℕ) (my : List ℕ) (enable yexp : ℕ) (s : Sprites) wher
   pub sprites-calm : Dark c → Calm c → s ≡ phased c raster my enable yexp s
   unfolding phased stepAt firstAt secondAt loadAt
   sprites-calm d m = rw (d .step, d .first, m .second, m .load)
-
-and-true : (b : Bool) → (b && true) ≡ b
-and-true true = refl
-and-true false = refl
-
-and-false : (b : Bool) → (b && false) ≡ false
-and-false true = refl
-and-false false = refl
-
-never-both : (b : Bool) → (b && not b) ≡ false
-never-both true = refl
-never-both false = refl
 
 once : (a b : Bool) → (not b && (a && not b)) ≡ (a && not b)
 once true true = refl
