@@ -3,7 +3,7 @@ use mathlib.Core.Path.{_≡_, refl, sym, _∙_}
 use mathlib.Core.Bool.{Bool, true, false, false≢true}
 use lib.IntN.{ℤ, pos, negsuc}
 use borrow.Author.Tests.{eqb-true, leb-true, ltb-true, eq-eqb, le-leb, lt-ltb}
-use Rattle.laws.specs.Clock.{inRange, canTick}
+use Rattle.laws.specs.Clock.{lastClock, lastTickable, inRange, canTick}
 use Rattle.laws.proofs.Choice.{and-false}
 use Rattle.arbitration.specs.Bus.{Counted}
 use Rattle.access.specs.declared.Pending.{Pending}
@@ -14,17 +14,17 @@ use Rattle.sequencer.specs.Accept.{aecFine, clockFine, tickable, placeFi
 
 pub clock-fine-range : (z : ℤ) → clockFine z ≡ true → inRange z
 unfolding clockFine
-clock-fine-range (pos n) e = leb-true n 4611686018427387904 e
+clock-fine-range (pos n) e = leb-true n lastClock e
 clock-fine-range (negsuc n) e = absurd (false≢true e)
 
 pub range-clock-fine : (z : ℤ) → inRange z → clockFine z ≡ true
 unfolding clockFine
-range-clock-fine (pos n) h = le-leb n 4611686018427387904 h
+range-clock-fine (pos n) h = le-leb n lastClock h
 range-clock-fine (negsuc n) h = absurd h
 
 pub tickable-can : (z : ℤ) → clockFine z ≡ true → tickable z ≡ true → canTick z
 unfolding clockFine tickable
-tickable-can (pos n) e t = leb-true n 4611686018427387902 t
+tickable-can (pos n) e t = leb-true n lastTickable t
 tickable-can (negsuc n) e t = absurd (false≢true e)
 
 pub aec-fine-counted : (z : ℤ) → aecFine z ≡ true → Counted z

@@ -7,6 +7,7 @@ use lib.Dec.{leb}
 use lib.IntN.{ℤ, pos, negsuc}
 use lib.Signed.{leZ}
 use borrow.Author.Tests.{le-leb, lt-leb, ne-eqb, not-true, not-false}
+use Rattle.laws.specs.Clock.{lastClock, lastTickable}
 use Rattle.sprites.specs.Fine.{fineTest}
 use Rattle.side.specs.Fine.{vmliLimit}
 use Rattle.access.specs.declared.Pending.the-variants.{Nothing, At}
@@ -24,12 +25,12 @@ is-counted (pos n) = refl
 is-counted (negsuc zero) = refl
 is-counted (negsuc (suc n)) = simp (lt-leb (suc n) 0 (omega arith), ne-eqb (suc n) 0 (λ (e : suc n ≡ 0). omega arith))
 
-pub is-clock : (z : ℤ) → (leZ (pos 0) z && leZ z (pos 4611686018427387904)) ≡ clockFine z
+pub is-clock : (z : ℤ) → (leZ (pos 0) z && leZ z (pos lastClock)) ≡ clockFine z
 unfolding clockFine
 is-clock (pos n) = simp (le-leb 0 n (omega arith))
 is-clock (negsuc n) = refl
 
-pub is-tickable : (z : ℤ) → leZ z (pos 4611686018427387902) ≡ tickable z
+pub is-tickable : (z : ℤ) → leZ z (pos lastTickable) ≡ tickable z
 unfolding tickable
 is-tickable (pos n) = refl
 is-tickable (negsuc n) = refl
