@@ -1,13 +1,14 @@
 -- A sprite's two slots (Bauer 3.6.3, 3.8.1 rule 5). Byte k·3 + c of the bytes is byte c of sprite k.
-use Prim.Native.Nat.{ℕ, _+_, _*_, _/_, _%_}
+use Prim.Native.Nat.{ℕ, _+_, _*_, _%_}
 use mathlib.Core.Bool.{Bool, not, _&&_, _||_, cond}
 use mathlib.Core.List.{List}
 use lib.ListN.{getD, set}
+use Rattle.laws.specs.Pointers.{matrixBase}
 use Rattle.memory.specs.Memory.{readAt}
 
--- Bauer 3.6.2: the last eight bytes of the video matrix
+-- Bauer 3.6.2: the last eight bytes of the video matrix's kilobyte
 abbrev pub pointerAddress : ℕ → ℕ → ℕ
-pointerAddress ptrs k = ptrs / 16 * 0x400 + 0x3F8 + k
+pointerAddress ptrs k = matrixBase ptrs + 0x3F8 + k
 
 -- Bauer 3.6.2: pointer · 64 + MC, six bits; the idle address without DMA
 unfoldable pub byteAddress : Bool → ℕ → ℕ → ℕ
