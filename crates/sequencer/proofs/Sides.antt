@@ -6,6 +6,7 @@ use mathlib.Core.List.{List}
 use lib.Dec.{ltb}
 use lib.IntN.{ℤ}
 use lib.ListN.{length}
+use Rattle.memory.specs.Memory.{blockRefusal}
 use Rattle.registers.specs.declared.Registers.{Registers}
 use Rattle.registers.specs.declared.Irq.{Irq}
 use Rattle.registers.specs.Control.{DEN, RSEL, YSCROLL, CSEL}
@@ -67,13 +68,13 @@ as-one g k s = simp (s .den, s .rsel, s .yscroll, s .csel, s .compare, s .my, s 
 -- memory of the legal lengths and a bank 0..3 are not refused
 pub lent-legal : (ram rom colour : List ℕ) (bank : ℕ) → length ram ≡ 16384 → length rom ≡ 4096 → length colour ≡ 1024 → ltb 3 bank ≡ false
     → lentRefusal (host ram rom colour bank) ≡ 0
-unfolding lentRefusal
+unfolding lentRefusal blockRefusal
 lent-legal ram rom colour bank r s t b = simp (r, s, t, b)
 
 -- a bank above 3 is
 pub lent-bank : (ram rom colour : List ℕ) (bank : ℕ) → length ram ≡ 16384 → length rom ≡ 4096 → length colour ≡ 1024 → ltb 3 bank ≡ true
     → lentRefusal (host ram rom colour bank) ≡ 2
-unfolding lentRefusal
+unfolding lentRefusal blockRefusal
 lent-bank ram rom colour bank r s t b = simp (r, s, t, b)
 
 -- a tick refused for its bank, and for its state
