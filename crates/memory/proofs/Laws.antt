@@ -15,7 +15,7 @@ use Rattle.memory.proofs.Page.{page, from-1000}
 -- what is lent whole, in a bank that there is, is never refused
 pub not-refused : (ram rom : List ℕ) (bank : ℕ) → Lent ram rom → bank ≤ 3 → blockRefusal ram rom bank ≡ 0
 unfolding blockRefusal
-not-refused ram rom bank lent b = simp (lent .inRam, lent .inRom, le-ltb 3 bank b)
+not-refused ram rom bank lent b = simp (lent .wholeRam, lent .wholeRom, le-ltb 3 bank b)
 
 -- and where nothing is refused, all is lent whole, in a bank that there is
 no-bank-above : (b : Bool) → _≡_ {A = ℕ} (cond b 2 0) 0 → b ≡ false
@@ -31,7 +31,7 @@ module _ (ram rom : List ℕ) (bank : ℕ) (e : blockRefusal ram rom bank ≡ 0)
   banks = passed (eqb (length rom) 4096) _ (roms .1)
 
   pub unrefused-lent : Lent ram rom
-  unrefused-lent = record { inRam = eqb-true (length ram) 16384 (roms .0); inRom = eqb-true (length rom) 4096 (banks .0) }
+  unrefused-lent = record { wholeRam = eqb-true (length ram) 16384 (roms .0); wholeRom = eqb-true (length rom) 4096 (banks .0) }
 
   pub unrefused-bank : bank ≤ 3
   unrefused-bank = ltb-false 3 bank (no-bank-above (ltb 3 bank) (banks .1))

@@ -7,7 +7,7 @@ use Rattle.script.specs.declared.Step.the-variants.{Tick, Write, Expand,
 use Rattle.script.specs.declared.Part.the-variants.{Ram, Rom, Colour}
 use Rattle.script.specs.declared.Item.{Item}
 use Rattle.script.specs.declared.Item.the-variants.{Changes, Change, Steps, Do, Done, Refused}
-use Rattle.script.specs.Step.{allowedIf, decoded, stepOf}
+use Rattle.script.specs.Step.{allowedIf, stepDecoded, stepOf}
 use Rattle.script.specs.File.{countOf, changeOf, endOf, changes, section, steps, script, runOf}
 
 -- no changes, then a count of steps and the bytes that follow it
@@ -37,7 +37,7 @@ pub record Examples : Type 0 where
   pub more : runOf (noChanges (1 ∷ 0 ∷ 0 ∷ 0 ∷ 0 ∷ 0 ∷ 0 ∷ 0 ∷ [])) ≡ afterNone (Steps 1 ∷ Do Tick ∷ Refused 9 ∷ [])
 
 pub examples : Examples
-unfolding allowedIf decoded stepOf countOf changeOf endOf changes section steps script runOf
+unfolding allowedIf stepDecoded stepOf countOf changeOf endOf changes section steps script runOf
 examples =
     record {
       ticks = refl;

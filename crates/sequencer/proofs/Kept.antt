@@ -38,8 +38,8 @@ accepted-fine c e =
     let s = c .side in
     record {
       side = record {
-        low = at-most 1 (s .beam .cycle) (λ h. simp h);
-        high = at-most (s .beam .cycle) lastCycle (λ h. simp (h, and-false));
+        first = at-most 1 (s .beam .cycle) (λ h. simp h);
+        last = at-most (s .beam .cycle) lastCycle (λ h. simp (h, and-false));
         raster = at-most (s .beam .raster) lastLine (λ h. simp (h, and-false));
         aec = aec-fine-counted (s .bus .aec) (holds (aecFine (s .bus .aec)) (λ h. simp (h, and-false)));
         vc = at-most (s .rows .vc) 1023 (λ h. simp (h, and-false));
@@ -65,8 +65,8 @@ unfolding accepted
 fine-accepted c f =
     let s = f .side in
     rw (
-      le-leb _ _ (s .low),
-      le-leb _ _ (s .high),
+      le-leb _ _ (s .first),
+      le-leb _ _ (s .last),
       le-leb _ _ (s .raster),
       le-leb _ _ (f .compare),
       counted-aec-fine _ (s .aec),

@@ -13,7 +13,7 @@ use Rattle.side.specs.Fine.{vmliLimit}
 use Rattle.access.specs.declared.Pending.the-variants.{Nothing, At}
 use Rattle.access.proofs.Laws.{Pends}
 use Rattle.sequencer.specs.declared.Chip.{Chip}
-use Rattle.sequencer.specs.Set.{side≔, rows≔, display≔, picture≔, pen≔, changing≔}
+use Rattle.sequencer.specs.Set.{side≔, rows≔, states≔, picture≔, pen≔, changing≔}
 use Rattle.sequencer.specs.Accept.{aecFine, clockFine, tickable, placeFine, accepted}
 use Rattle.sequencer.specs.Tick.{answer}
 use Rattle.sequencer.specs.Calls.{displayPlaced, lateAt, lateTaken}
@@ -56,7 +56,7 @@ module _ (c : Chip) where
     not-placed t = simp (sym e ∙ not-true fine t)
 
     pub placed : {forced : ℤ} → not fine ≡ false → forced ≡ z
-        → answer 0 (side≔ (rows≔ (display≔ display transition access (c .side .rows)) (c .side)) (picture≔ (pen≔ (changing≔ changing forced (c .picture .pen)) (c .picture)) c))
+        → answer 0 (side≔ (rows≔ (states≔ display transition access (c .side .rows)) (c .side)) (picture≔ (pen≔ (changing≔ changing forced (c .picture .pen)) (c .picture)) c))
         ≡ displayPlaced c display transition access changing z
     unfolding displayPlaced
     placed t forced = rw forced (simp (sym e ∙ not-false fine t))

@@ -21,7 +21,7 @@ use Rattle.side.specs.declared.Side.{Side}
 use Rattle.side.specs.Turn.{Controls, turned}
 use Rattle.sequencer.specs.declared.Chip.{Chip}
 use Rattle.sequencer.specs.declared.Answer.{Answer}
-use Rattle.sequencer.specs.Set.{irq≔, border≔, sprites≔, rows≔, display≔, pending≔}
+use Rattle.sequencer.specs.Set.{irq≔, border≔, sprites≔, rows≔, states≔, pending≔}
 use Rattle.sequencer.specs.Chip.{Host, host, timed}
 use Rattle.sequencer.specs.Accept.{accepted, tickable, clockFine}
 use Rattle.sequencer.specs.Tick.{tickWorld, tickOf, lentRefusal, tickRefusal, answer, ticked}
@@ -178,7 +178,7 @@ module _ {a b : Chip} (e : Level a b) where
   unfolding displayPlaced
   display-level display transition access m n s t f g =
       rw (f, g)
-      (record { refused = refl; chip = record { side = ap (λ (s : Side). rows≔ (display≔ display transition access (s .rows)) s) (e .side); registers = e .registers } })
+      (record { refused = refl; chip = record { side = ap (λ (s : Side). rows≔ (states≔ display transition access (s .rows)) s) (e .side); registers = e .registers } })
 
   late-at : (v w : ℕ) (p : Pending) → Level (lateAt a v p) (lateAt b w p)
   late-at v w Nothing = e

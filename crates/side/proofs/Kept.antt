@@ -139,10 +139,10 @@ module _ (g : Controls) (s : Side) where
   pub side-kept : FineSide s → canTick (s .bus .clock) → FineSide (turned g s .side)
   unfolding turned
   side-kept h t =
-      let rows = rows-kept (s .beam .cycle) _ _ _ (s .rows) (h .high) (record { vc = h .vc; vcbase = h .vcbase; rc = h .rc; vmli = h .vmli }) in
+      let rows = rows-kept (s .beam .cycle) _ _ _ (s .rows) (h .last) (record { vc = h .vc; vcbase = h .vcbase; rc = h .rc; vmli = h .vmli }) in
       record {
-        low = cycle-low (s .beam .cycle);
-        high = cycle-high (s .beam .cycle);
+        first = cycle-low (s .beam .cycle);
+        last = cycle-high (s .beam .cycle);
         raster = raster-kept _ _ (s .beam .raster) (h .raster);
         aec = bus-aec (s .bus) _ (h .aec);
         vc = rows .vc;
@@ -168,8 +168,8 @@ pub side-same : {s t : Side}
     → FineSide t
 side-same beam bus vc vcbase rc vmli sprites place h =
     record {
-      low = rw beam (h .low);
-      high = rw beam (h .high);
+      first = rw beam (h .first);
+      last = rw beam (h .last);
       raster = rw beam (h .raster);
       aec = rw bus (h .aec);
       vc = rw vc (h .vc);
@@ -185,8 +185,8 @@ pub fresh-fine : FineSide freshSide
 unfolding freshSide freshRows
 fresh-fine =
     record {
-      low = omega (arith, fresh-cycle);
-      high = omega (arith, fresh-cycle);
+      first = omega (arith, fresh-cycle);
+      last = omega (arith, fresh-cycle);
       raster = omega (arith, fresh-raster);
       aec = fresh-aec;
       vc = omega arith;

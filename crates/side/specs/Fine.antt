@@ -14,8 +14,8 @@ unfoldable pub vmliLimit : ℕ → ℕ
 vmliLimit cycle = pick (happens vmliCounts cycle) (cycle - 15) 40
 
 pub record FineSide (s : Side) : Type 0 where
-  pub low : 1 ≤ s .beam .cycle
-  pub high : s .beam .cycle ≤ lastCycle
+  pub first : 1 ≤ s .beam .cycle
+  pub last : s .beam .cycle ≤ lastCycle
   pub raster : s .beam .raster ≤ lastLine
   pub aec : Counted (s .bus .aec)
   pub vc : s .rows .vc ≤ 1023

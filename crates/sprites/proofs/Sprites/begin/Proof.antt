@@ -1,4 +1,4 @@
-use Rattle.sprites.specs.Sprites.{begun, spriteAt}
+use Rattle.sprites.specs.Sprites.{dmaBegun, spriteAt}
 use borrow.Author.Needs.{needs}
 use Rattle.sprites.proofs.Sprites.begin.Statement.{statement}
 use Rattle.sprites.proofs.Sprites.begin.Tie as tie
@@ -25,11 +25,11 @@ without-bit-requires : tie.Need-without-bit-requires
 without-bit-requires c κs = search needs
 
 returns : tie.Need-returns
-unfolding begun spriteAt
+unfolding dmaBegun spriteAt
 returns c = simp (c .without-bit .ensures, ← c .before .before .has-bit .ensures, c .before .if1 .taken, c .before .before .before .with-bit .ensures)
 
 returns-2 : tie.Need-returns-2
-unfolding begun spriteAt
+unfolding dmaBegun spriteAt
 returns-2 c = simp (← c .before .has-bit .ensures, c .if1 .left, c .before .before .with-bit .ensures)
 
 pub begin-spec : {M : Type 1} → statement M
