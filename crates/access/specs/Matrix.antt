@@ -1,5 +1,5 @@
 -- Character accesses and the matrix line (Bauer 3.7.2 rule 3, 3.14.6).
-use Prim.Native.Nat.{ℕ, _+_, _*_, _%_}
+use Prim.Native.Nat.{ℕ, _+_, _*_, _%_, _<_}
 use mathlib.Core.Bool.{Bool, cond}
 use mathlib.Core.List.{List}
 use lib.ListN.{getD, set}
@@ -29,6 +29,11 @@ filled matrix go vmli vc ptrs ram rom colour bank =
 -- 01, corner 21: when AEC is not low the place becomes pending and replaces an earlier one
 unfoldable pub pendingAfter : Bool → ℕ → Pending → Pending
 pendingAfter missed vmli old = cond missed (At (placeOf vmli)) old
+
+-- 01, States we accept: none, or one of the forty
+abbrev pub Pends : Pending → Type 0
+Pends Nothing = Unit
+Pends (At p) = p < 40
 
 -- Bauer 3.14.6; 01, Late byte: the CPU's low nibble in the high byte, 0xFF below
 unfoldable pub lateWord : ℕ → ℕ

@@ -14,8 +14,8 @@ use Rattle.laws.specs.Bytes.{lowByte, highByte, word}
 use Rattle.laws.proofs.Choice.{by-test}
 use Rattle.access.specs.declared.Pending.{Pending}
 use Rattle.access.specs.declared.Pending.the-variants.{Nothing, At}
+use Rattle.access.specs.Matrix.{Pends}
 use Rattle.scene.specs.Numbers.{long, bits, clockOf, countByte, aecOf, flagByte, flagOf, placeByte, pendingOf}
-use Rattle.scene.specs.Saved.{OnLine}
 
 -- ---- a number, its bytes, the number
 
@@ -48,12 +48,12 @@ pub count-back : (z : ℤ) → SFits w8 z → aecOf (countByte z) ≡ z
 unfolding countByte aecOf
 count-back z f = toZ-ofZ f
 
-pub place-back : (p : Pending) → OnLine p → pendingOf (placeByte p) ≡ p
+pub place-back : (p : Pending) → Pends p → pendingOf (placeByte p) ≡ p
 unfolding pendingOf placeByte
 place-back Nothing h = refl
 place-back (At p) h = rw (ne-eqb p 255 (λ (e : p ≡ 255). let k : p < 40 = h in omega arith))
 
-pub place-fine : (p : Pending) → OnLine p → (eqb (placeByte p) 255 || ltb (placeByte p) 40) ≡ true
+pub place-fine : (p : Pending) → Pends p → (eqb (placeByte p) 255 || ltb (placeByte p) 40) ≡ true
 unfolding placeByte
 place-fine Nothing h = refl
 place-fine (At p) h = rw (ne-eqb p 255 (λ (e : p ≡ 255). let k : p < 40 = h in omega arith), lt-ltb p 40 h)
@@ -156,6 +156,6 @@ pub place-again : (b : ℕ) → placeByte (pendingOf b) ≡ b
 unfolding placeByte pendingOf
 place-again b = by-test (λ (p : Pending). placeByte p ≡ b) (eqb b 255) (λ e. sym (eqb-true b 255 e)) (λ e. refl)
 
-pub place-on-line : (b : ℕ) → (eqb b 255 || ltb b 40) ≡ true → OnLine (pendingOf b)
+pub place-on-line : (b : ℕ) → (eqb b 255 || ltb b 40) ≡ true → Pends (pendingOf b)
 unfolding pendingOf
-place-on-line b h = by-test OnLine (eqb b 255) (λ e. tt) (λ e. ltb-true b 40 (rw e at h))
+place-on-line b h = by-test Pends (eqb b 255) (λ e. tt) (λ e. ltb-true b 40 (rw e at h))

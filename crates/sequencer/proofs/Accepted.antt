@@ -8,7 +8,7 @@ use Rattle.laws.proofs.Choice.{and-false}
 use Rattle.arbitration.specs.Bus.{Counted}
 use Rattle.access.specs.declared.Pending.{Pending}
 use Rattle.access.specs.declared.Pending.the-variants.{Nothing, At}
-use Rattle.access.proofs.Laws.{Pends}
+use Rattle.access.specs.Matrix.{Pends}
 use Rattle.sequencer.specs.declared.Chip.{Chip}
 use Rattle.sequencer.specs.Accept.{aecFine, clockFine, tickable, placeFine, accepted}
 

@@ -11,7 +11,7 @@ use Rattle.laws.specs.Clock.{lastClock, lastTickable}
 use Rattle.sprites.specs.Fine.{fineTest}
 use Rattle.side.specs.Fine.{vmliLimit}
 use Rattle.access.specs.declared.Pending.the-variants.{Nothing, At}
-use Rattle.access.proofs.Laws.{Pends}
+use Rattle.access.specs.Matrix.{Pends}
 use Rattle.sequencer.specs.declared.Chip.{Chip}
 use Rattle.sequencer.specs.Set.{side≔, rows≔, states≔, picture≔, pen≔, changing≔}
 use Rattle.sequencer.specs.Accept.{aecFine, clockFine, tickable, placeFine, accepted}

@@ -25,7 +25,7 @@ unfoldable pub tickable : ℤ → Bool
 tickable (pos n) = leb n lastTickable
 tickable (negsuc n) = true
 
--- pending matrix place none or 0..39
+-- `Pends` as a test
 unfoldable pub placeFine : Pending → Bool
 placeFine Nothing = true
 placeFine (At p) = ltb p 40

@@ -19,7 +19,8 @@ use Rattle.sprites.proofs.Kept.{fine-mcbase, fine-first, fine-second, fine-load
 use Rattle.arbitration.specs.declared.Bus.{Bus}
 use Rattle.arbitration.specs.Bus.{Counted, clockOn, clocked, arbitrated}
 use Rattle.arbitration.proofs.Kept.{aec-kept, clock-on-range, arbitrated-aec, arbitrated-clock, clocked-aec, clocked-clock, fresh-aec, fresh-clock}
-use Rattle.access.proofs.Laws.{Pends, pending-small}
+use Rattle.access.specs.Matrix.{Pends}
+use Rattle.access.proofs.Laws.{pending-small}
 use Rattle.side.specs.declared.Rows.{Rows}
 use Rattle.side.specs.declared.Side.{Side}
 use Rattle.side.specs.Fine.{FineSide, vmliLimit}

@@ -6,7 +6,7 @@ use Rattle.schedule.specs.Kind.{lastCycle, lastLine}
 use Rattle.schedule.specs.Diagram.{happens, vmliCounts}
 use Rattle.sprites.specs.Fine.{FineSprites}
 use Rattle.arbitration.specs.Bus.{Counted}
-use Rattle.access.proofs.Laws.{Pends}
+use Rattle.access.specs.Matrix.{Pends}
 use Rattle.side.specs.declared.Side.{Side}
 
 -- VMLI 0..40, and where it counts no higher than an ordinary bad line has it: 0 after the first character access, one more after each

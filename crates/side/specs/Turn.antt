@@ -1,4 +1,4 @@
--- One tick of the timing side, in the order of 01's list. No picture value is in sight.
+-- One tick of the timing side: each part has its step's number of 01's list, and stands after the parts that it reads. No picture value is in sight.
 use Prim.Native.Nat.{ℕ}
 use mathlib.Core.Bool.{Bool, true, false, not, _&&_, _||_}
 use mathlib.Core.List.{List}
