@@ -24,9 +24,10 @@ use Rattle.access.specs.Matrix.{pendingAfter}
 use Rattle.side.specs.declared.Frame.{Frame}
 use Rattle.side.specs.declared.Side.{Side}
 use Rattle.side.specs.declared.Turned.{Turned}
+use Rattle.side.specs.declared.Swept.{Swept}
 use Rattle.side.specs.declared.Rows.{Rows}
 use Rattle.side.specs.declared.Rowed.{Rowed}
-use Rattle.side.specs.Frame.{rasterBegun, frameBegun, frameEnded, raised, Sweeps}
+use Rattle.side.specs.Frame.{rasterBegun, frameBegun, frameEnded, raised, swept}
 use Rattle.side.specs.Rows.{vcAfter, vmliAfter, rcAfter, accessAfter, displayAfter, rowed}
 use Rattle.side.specs.Phases.{beginAt, left40At, left38At, right38At, right40At, rememberAt, endAt, bordered, stepAt, firstAt, secondAt, loadAt, phased, slotMoved}
 use Rattle.side.specs.Turn.{Controls, turned}
@@ -72,16 +73,9 @@ once false false = refl
 
 -- past the second cycle the line, the frame and the interrupt stay
 pub swept-later : (f : Frame) (i : Irq) (cycle raster : ℕ) (den : Bool) (compare : ℕ) → Later cycle
-    → Sweeps f i cycle raster den compare (record { line = raster; begun = f; wraps = false; raster = raster; frame = f; irq = i })
-unfolding rasterBegun frameBegun frameEnded raised
-swept-later f i cycle raster den compare l = record {
-  line = rw (l .begins) refl;
-  begun = rw (l .begins) refl;
-  wraps = rw (l .wraps) refl;
-  raster = sym (picks false 0 raster);
-  frame = refl;
-  irq = rw (never-both (f .matched)) refl;
-}
+    → _≡_ {A = Swept} (record { line = raster; begun = f; wraps = false; raster = raster; frame = f; irq = i }) (swept f i cycle raster den compare)
+unfolding swept rasterBegun frameBegun frameEnded raised
+swept-later f i cycle raster den compare l = rw (l .begins, l .wraps, never-both (f .matched), picks false 0 raster)
 
 off : (b : Bool) → not b ≡ true → b ≡ false
 off true e = sym e
@@ -173,6 +167,6 @@ pub lit-glue : (g : Controls) (s : Side) {clk bus : Bus} {cycle : ℕ} {bad ba a
         low = s .bus .aeclow;
       };
     }) (turned g s)
-unfolding turned rasterBegun frameBegun frameEnded raised slotMoved
+unfolding turned swept rasterBegun frameBegun frameEnded raised slotMoved
 lit-glue g s {bus = bus'} l clk cycle bad border ph ba asked bus sprite mask now pending =
     rw (← clk, ← cycle, l .begins, l .wraps, never-both (s .frame .matched), picks false 0 (s .beam .raster), ← bad, ← border, ← ph, ← ba, ← asked, ← bus, l .sprite, l .pointing, l .fetching, l .after, ← sprite, ← mask, picks false (bus' .aeclow) (s .bus .aeclow), ← now, ← pending)
