@@ -479,10 +479,19 @@ fn run(
 fn lent_refusal(ram: &[u8], rom: &[u8], colour: &[u8], bank: u8) -> u8
     ensures { λ r. ⌜ r ≡ lentRefusal (host (now (ram .entry)) (now (rom .entry)) (now (colour .entry)) bank) ⌝ }
 {
+    if ram.len() != 16384 {
+        return 1;
+    }
+    if rom.len() != 4096 {
+        return 1;
+    }
     if colour.len() != 1024 {
         return 1;
     }
-    memory::block_refusal(ram, rom, 0, bank)
+    if 3 < bank {
+        return 2;
+    }
+    0
 }
 
 // The same over arrays, whose lengths their types tell.
