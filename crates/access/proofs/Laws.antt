@@ -7,10 +7,9 @@ use native.Mathlib.Omega.{arith}
 use lib.Dec.{eqb, ltb, leb}
 use lib.ListN.{length, length-set, getD}
 use Rattle.laws.proofs.Choice.{either}
-use Rattle.access.specs.Matrix.{placeOf, filled, pendingAfter}
+use Rattle.access.specs.Matrix.{placeOf, filled, pendingAfter, Pends}
 use Rattle.access.specs.Merge.{Merging, merging, previousOf, mergedAt, merged, latched}
 use Rattle.access.specs.declared.Pending.{Pending}
-use Rattle.access.specs.declared.Pending.the-variants.{Nothing, At}
 use Rattle.access.specs.Slots.{pointersAfter, byteTwoAfter, dataAfter, wordsAfter}
 
 pub place-small : (v : ℕ) → placeOf v < 40
@@ -25,11 +24,7 @@ previous-small f v =
     (either (λ (p : ℕ). p < 40) (ltb v f) (place-small _)
     (either (λ (p : ℕ). p < 40) (eqb f 0) (place-small _) (place-small _)))
 
--- and the place that is pending, if there is one
-abbrev pub Pends : Pending → Type 0
-Pends Nothing = Unit
-Pends (At p) = p < 40
-
+-- and so is the place that is pending, if there is one
 pub pending-small : (missed : Bool) (vmli : ℕ) (old : Pending) → Pends old → Pends (pendingAfter missed vmli old)
 unfolding pendingAfter
 pending-small missed vmli old h = either Pends missed (place-small vmli) h

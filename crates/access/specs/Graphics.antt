@@ -2,6 +2,7 @@
 use Prim.Native.Nat.{ℕ, _+_, _*_, _/_, _%_}
 use mathlib.Core.Bool.{Bool, not, _&&_, _||_, cond}
 use lib.Dec.{eqb}
+use Rattle.laws.specs.Pointers.{characterBase, bitmapBase}
 use Rattle.memory.specs.Memory.{inRom}
 
 -- 01, tick 6: the bits of a mode number, 4·ECM + 2·BMM + MCM
@@ -20,11 +21,11 @@ ecmMasked on address = cond on (address / 2048 * 2048 + address % 512) address
 
 -- Bauer 3.7.3.1: CB13 to CB11, the character code, RC
 unfoldable pub textAddress : ℕ → ℕ → ℕ → ℕ
-textAddress ptrs ch rc = ptrs / 2 % 8 * 0x800 + ch % 256 * 8 + rc
+textAddress ptrs ch rc = characterBase ptrs + ch % 256 * 8 + rc
 
 -- Bauer 3.7.3.3: CB13, VC, RC
 unfoldable pub bitmapAddress : ℕ → ℕ → ℕ → ℕ
-bitmapAddress ptrs vc rc = ptrs / 8 % 2 * 0x2000 + vc % 0x400 * 8 + rc
+bitmapAddress ptrs vc rc = bitmapBase ptrs + vc % 0x400 * 8 + rc
 
 unfoldable pub plainAddress : ℕ → ℕ → ℕ → ℕ → ℕ → ℕ
 plainAddress mode ptrs ch vc rc =

@@ -1,8 +1,9 @@
 -- Character accesses and the matrix line (Bauer 3.7.2 rule 3, 3.14.6).
-use Prim.Native.Nat.{ℕ, _+_, _*_, _/_, _%_}
+use Prim.Native.Nat.{ℕ, _+_, _*_, _%_, _<_}
 use mathlib.Core.Bool.{Bool, cond}
 use mathlib.Core.List.{List}
 use lib.ListN.{getD, set}
+use Rattle.laws.specs.Pointers.{matrixBase}
 use Rattle.memory.specs.Memory.{readAt}
 use Rattle.access.specs.declared.Pending.{Pending}
 use Rattle.access.specs.declared.Pending.the-variants.{Nothing, At}
@@ -11,9 +12,9 @@ use Rattle.access.specs.declared.Pending.the-variants.{Nothing, At}
 unfoldable pub placeOf : ℕ → ℕ
 placeOf vmli = vmli % 40
 
--- Bauer 3.7.2 rule 3: the video matrix at VC, ten bits, in the kilobyte that 0x18's upper nibble picks
+-- Bauer 3.7.2 rule 3: the video matrix at VC, ten bits
 abbrev pub matrixAddress : ℕ → ℕ → ℕ
-matrixAddress ptrs vc = ptrs / 16 * 0x400 + vc % 0x400
+matrixAddress ptrs vc = matrixBase ptrs + vc % 0x400
 
 -- Bauer 3.6.2: twelve bits, the screen code and the colour nibble above it
 unfoldable pub matrixWord : List ℕ → List ℕ → List ℕ → ℕ → ℕ → ℕ → ℕ
@@ -28,6 +29,11 @@ filled matrix go vmli vc ptrs ram rom colour bank =
 -- 01, corner 21: when AEC is not low the place becomes pending and replaces an earlier one
 unfoldable pub pendingAfter : Bool → ℕ → Pending → Pending
 pendingAfter missed vmli old = cond missed (At (placeOf vmli)) old
+
+-- 01, States we accept: none, or one of the forty
+abbrev pub Pends : Pending → Type 0
+Pends Nothing = Unit
+Pends (At p) = p < 40
 
 -- Bauer 3.14.6; 01, Late byte: the CPU's low nibble in the high byte, 0xFF below
 unfoldable pub lateWord : ℕ → ℕ

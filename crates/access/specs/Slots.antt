@@ -1,13 +1,14 @@
 -- A sprite's two slots (Bauer 3.6.3, 3.8.1 rule 5). Byte k·3 + c of the bytes is byte c of sprite k.
-use Prim.Native.Nat.{ℕ, _+_, _*_, _/_, _%_}
+use Prim.Native.Nat.{ℕ, _+_, _*_, _%_}
 use mathlib.Core.Bool.{Bool, not, _&&_, _||_, cond}
 use mathlib.Core.List.{List}
 use lib.ListN.{getD, set}
+use Rattle.laws.specs.Pointers.{matrixBase}
 use Rattle.memory.specs.Memory.{readAt}
 
--- Bauer 3.6.2: the last eight bytes of the video matrix
+-- Bauer 3.6.2: the last eight bytes of the video matrix's kilobyte
 abbrev pub pointerAddress : ℕ → ℕ → ℕ
-pointerAddress ptrs k = ptrs / 16 * 0x400 + 0x3F8 + k
+pointerAddress ptrs k = matrixBase ptrs + 0x3F8 + k
 
 -- Bauer 3.6.2: pointer · 64 + MC, six bits; the idle address without DMA
 unfoldable pub byteAddress : Bool → ℕ → ℕ → ℕ
@@ -18,17 +19,17 @@ unfoldable pub orOpen : Bool → ℕ → ℕ
 orOpen seen byte = cond seen byte 0xFF
 
 -- Bauer 3.6.3: the pointer is always read
-abbrev pub pointerOf : ℕ → ℕ → List ℕ → List ℕ → ℕ → ℕ
-pointerOf k ptrs ram rom bank = readAt ram rom bank (pointerAddress ptrs k) .byte
+abbrev pub pointerRead : ℕ → ℕ → List ℕ → List ℕ → ℕ → ℕ
+pointerRead k ptrs ram rom bank = readAt ram rom bank (pointerAddress ptrs k) .byte
 
 unfoldable pub pointersAfter : List ℕ → ℕ → ℕ → List ℕ → List ℕ → ℕ → List ℕ
-pointersAfter pointers k ptrs ram rom bank = set pointers k (pointerOf k ptrs ram rom bank)
+pointersAfter pointers k ptrs ram rom bank = set pointers k (pointerRead k ptrs ram rom bank)
 
 -- 01, corner 19; departs, DIFFERENCES 10: with DMA it is read whatever AEC is, but for sprite 0's first; without it only with AEC low
 unfoldable pub byteTwoAfter : List ℕ → ℕ → Bool → Bool → ℕ → Bool → ℕ → List ℕ → List ℕ → ℕ → List ℕ
 byteTwoAfter bytes k first on mc low ptrs ram rom bank =
     set bytes (k * 3 + 2)
-    (orOpen ((on && not first) || low) (readAt ram rom bank (byteAddress on (pointerOf k ptrs ram rom bank) mc) .byte))
+    (orOpen ((on && not first) || low) (readAt ram rom bank (byteAddress on (pointerRead k ptrs ram rom bank) mc) .byte))
 
 -- 01, corner 19: without the mask byte 1 reads the idle address always; with it, only the flag or AEC lets it
 unfoldable pub byteOne : List ℕ → ℕ → Bool → Bool → ℕ → Bool → List ℕ → List ℕ → ℕ → ℕ

@@ -1,12 +1,12 @@
 -- The AEC counter and the clock keep their bounds, and which field of the bus a step changes. Assumes nothing.
 use Prim.Native.Nat.{ℕ, zero, suc, _+_, _*_}
 use mathlib.Core.Path.{_≡_, refl, sym, ap}
-use mathlib.Core.Bool.{Bool, true, false, not, _||_}
+use mathlib.Core.Bool.{Bool, false, not}
 use native.Mathlib.Omega.{arith}
 use lib.Bits.{and-zero-r}
 use lib.IntN.{ℤ, pos, negsuc}
 use Rattle.laws.specs.Clock.{inRange, canTick}
-use Rattle.laws.proofs.Choice.{either}
+use Rattle.laws.proofs.Choice.{either, or-false}
 use Rattle.schedule.specs.Requests.{maskAt}
 use Rattle.arbitration.specs.declared.Bus.{Bus}
 use Rattle.arbitration.specs.Bus.{down, Counted, aecAfter, low, arbitrated, clockOn, clockAfter, clocked, fresh, spriteAsks, requested}
@@ -79,10 +79,6 @@ fresh-aec = omega arith
 pub fresh-clock : inRange (fresh .clock)
 unfolding fresh
 fresh-clock = omega arith
-
-or-false : (b : Bool) → (b || false) ≡ b
-or-false true = refl
-or-false false = refl
 
 -- where no sprite is scheduled, the matrix alone asks
 pub matrix-alone : (ba : Bool) (dma cycle : ℕ) → maskAt cycle ≡ 0 → not ba ≡ requested ba dma cycle

@@ -7,12 +7,13 @@ use native.Mathlib.Omega.{arith}
 use lib.IntN.{pos}
 use lib.ListN.{replicate, length-replicate}
 use Rattle.laws.specs.Bits.{hasBit}
+use Rattle.laws.specs.Lists.{zeros}
 use Rattle.side.specs.declared.Side.{Side}
 use Rattle.side.specs.Turn.{freshSide}
 use Rattle.side.proofs.Kept.{fresh-fine}
 use Rattle.sequencer.specs.declared.Chip.{Chip}
 use Rattle.sequencer.specs.declared.Answer.{Answer}
-use Rattle.sequencer.specs.Chip.{Host, host, zeros, timed, powered}
+use Rattle.sequencer.specs.Chip.{Host, host, timed, powered}
 use Rattle.sequencer.specs.Accept.{clockFine}
 use Rattle.sequencer.specs.Tick.{lentRefusal}
 use Rattle.sequencer.proofs.Sides.{lent-legal, lent-bank}

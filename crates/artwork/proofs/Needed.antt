@@ -5,6 +5,7 @@ use mathlib.Core.Bool.{true, false}
 use mathlib.Core.List.{_∷_}
 use lib.IntN.{ℤ, pos, negsuc}
 use Rattle.laws.specs.Bits.{hasBit, withBit, withoutBit}
+use Rattle.laws.specs.Lists.{zeros}
 use Rattle.laws.specs.Pick.{pick}
 use Rattle.registers.specs.Registers.{latch, written}
 use Rattle.registers.specs.Irq.{quiet, asked, settled, triggered, irqWritten}
@@ -17,14 +18,14 @@ use Rattle.sprites.specs.Fine.{fineTest}
 use Rattle.arbitration.specs.Bus as Buses
 use Rattle.access.specs.declared.Pending.the-variants.{Nothing}
 use Rattle.side.specs.declared.Side.{Side}
-use Rattle.side.specs.Frame.{rasterBegun, frameBegun, frameEnded, raised}
+use Rattle.side.specs.Frame.{swept, rasterBegun, frameBegun, frameEnded, raised}
 use Rattle.side.specs.Rows.{freshRows}
 use Rattle.side.specs.Phases as Phases
 use Rattle.side.specs.Fine.{vmliLimit}
 use Rattle.side.specs.Turn.{turned}
 use Rattle.sequencer.specs.declared.Chip.{Chip}
 use Rattle.sequencer.specs.declared.Answer.{Answer}
-use Rattle.sequencer.specs.Chip.{Host, zeros, timed}
+use Rattle.sequencer.specs.Chip.{Host, timed}
 use Rattle.sequencer.specs.Accept.{accepted, aecFine, clockFine, tickable, placeFine}
 use Rattle.sequencer.specs.Tick.{lentRefusal}
 use Rattle.sequencer.specs.Calls.{registerWritten, expandAt, controlsPlaced, displayPlaced}
@@ -107,7 +108,7 @@ unfolding done
 seen see h x c l e t = ap see (ap (λ (r : Answer). r .chip .side) (tick-taken h (done x c .chip) l e t) ∙ tick-side h (done x c .chip))
 
 pub needed : (h : Host) → lentRefusal h ≡ 0 → Needed h
-unfolding done registerWritten expandAt controlsPlaced timed accepted aecFine clockFine tickable placeFine fineTest vmliLimit turned hasBit withBit withoutBit pick latch written asked settled triggered irqWritten happens pointerTime dataTime maskAt badLine baOutput nextCycle atLastLine nextLine Borders.right38 Sprites.allFresh Sprites.fresh Sprites.spriteAt Sprites.upTo Sprites.begun Sprites.startOne Sprites.started Sprites.firstPhased Sprites.clearAfter Sprites.flipAfter Sprites.expandWritten Buses.fresh Buses.spriteAsks Buses.requested Buses.arbitrated rasterBegun frameBegun frameEnded raised freshRows Phases.beginAt Phases.left40At Phases.left38At Phases.right38At Phases.right40At Phases.rememberAt Phases.endAt Phases.bordered Phases.stepAt Phases.firstAt Phases.secondAt Phases.loadAt Phases.phased Phases.slotMoved
+unfolding done registerWritten expandAt controlsPlaced timed accepted aecFine clockFine tickable placeFine fineTest vmliLimit turned hasBit withBit withoutBit pick latch written asked settled triggered irqWritten happens pointerTime dataTime maskAt badLine baOutput nextCycle atLastLine nextLine Borders.right38Passed Sprites.allFresh Sprites.fresh Sprites.spriteAt Sprites.upTo Sprites.dmaBegun Sprites.startOne Sprites.started Sprites.firstPhased Sprites.clearAfter Sprites.flipAfter Sprites.expandWritten Buses.fresh Buses.spriteAsks Buses.requested Buses.arbitrated swept rasterBegun frameBegun frameEnded raised freshRows Phases.beginAt Phases.left40At Phases.left38At Phases.right38At Phases.right40At Phases.rememberAt Phases.endAt Phases.bordered Phases.stepAt Phases.firstAt Phases.secondAt Phases.loadAt Phases.phased Phases.slotMoved
 needed h l =
     record {
       yscroll-0 = seen (λ (s : Side). s .bus .balow) h (place-controls 0x10 0 0) (chipAt 11 0x30) l refl refl;

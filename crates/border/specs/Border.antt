@@ -21,16 +21,16 @@ abbrev pub topReached : Border → ℕ → Bool → Bool
 topReached b raster den = eqb raster (b .top) && den
 
 -- the vertical flip-flop, set or reset where a line is reached
-unfoldable pub turned : Border → Bool → Bool → Border
-turned b reached on = cond reached (vertical≔ on b) b
+unfoldable pub switched : Border → Bool → Bool → Border
+switched b reached on = cond reached (vertical≔ on b) b
 
 -- departs, DIFFERENCES 6: the test in cycle 1 isn't in the article; first the top line, then the bottom line
 unfoldable pub lineBegun : Border → ℕ → Bool → Border
-lineBegun b raster den = turned (turned b (topReached b raster den) false) (bottomReached b raster) true
+lineBegun b raster den = switched (switched b (topReached b raster den) false) (bottomReached b raster) true
 
 -- Bauer 3.9 rules 2 and 3, in cycle 63, and rules 4 and 5; 01, Leaves: Border: the bottom line goes first
 unfoldable pub lineEnded : Border → ℕ → Bool → Border
-lineEnded b raster den = cond (bottomReached b raster) (vertical≔ true b) (turned b (topReached b raster den) false)
+lineEnded b raster den = cond (bottomReached b raster) (vertical≔ true b) (switched b (topReached b raster den) false)
 
 -- Bauer 3.9 rule 6: with the vertical flip-flop clear, the main flip-flop is reset
 unfoldable pub opened : Border → Border
@@ -51,18 +51,18 @@ left part≔ b reached raster den =
     part≔ (leftPart (b .main) (e .main)) e
 
 -- Bauer 3.9: left 24 with CSEL, 31 without
-unfoldable pub left40 : Border → Bool → ℕ → Bool → Border
-left40 b csel = left part40≔ b csel
+unfoldable pub left40Passed : Border → Bool → ℕ → Bool → Border
+left40Passed b csel = left part40≔ b csel
 
-unfoldable pub left38 : Border → Bool → ℕ → Bool → Border
-left38 b csel = left part38≔ b (not csel)
+unfoldable pub left38Passed : Border → Bool → ℕ → Bool → Border
+left38Passed b csel = left part38≔ b (not csel)
 
 -- Bauer 3.9 rule 1; right 335 without CSEL, 344 with
-unfoldable pub right38 : Border → Bool → Border
-right38 b csel = cond csel b (main≔ true b)
+unfoldable pub right38Passed : Border → Bool → Border
+right38Passed b csel = cond csel b (main≔ true b)
 
-unfoldable pub right40 : Border → Bool → Border
-right40 b csel = cond csel (main≔ true b) b
+unfoldable pub right40Passed : Border → Bool → Border
+right40Passed b csel = cond csel (main≔ true b) b
 
 -- 01, One tick: in cycles 16 and 17 the main border is remembered
 abbrev pub remembered : Border → Border

@@ -1,7 +1,7 @@
 // The border unit: the main and the vertical flip-flop, and the lines at which the vertical one changes.
 ghost use mathlib.Core.Path.{_≡_};
 ghost use mathlib.Core.Bool.{true, false, not};
-ghost use Rattle.border.specs.Border.{fresh, compared, turned, lineBegun, lineEnded, opened, leftPassed, leftPart, left40, left38, right38, right40, remembered};
+ghost use Rattle.border.specs.Border.{fresh, compared, switched, lineBegun, lineEnded, opened, leftPassed, leftPart, left40Passed, left38Passed, right38Passed, right40Passed, remembered};
 
 pub struct Border {
     pub vertical: bool,
@@ -55,7 +55,7 @@ impl Border {
     }
 
     fn turn(mut self, hit: bool, on: bool) -> Self
-        ensures { λ r. ⌜ r ≡ turned self hit on ⌝ }
+        ensures { λ r. ⌜ r ≡ switched self hit on ⌝ }
     {
         if hit {
             self.vertical = on;
@@ -98,7 +98,7 @@ impl Border {
     }
 
     pub fn left40(self, csel: bool, raster: u16, den: bool) -> Self
-        ensures { λ r. ⌜ r ≡ left40 self csel raster den ⌝ }
+        ensures { λ r. ⌜ r ≡ left40Passed self csel raster den ⌝ }
     {
         let mut b = self.pass_left(csel, raster, den);
         b.part40 = part(self.main, b.main);
@@ -106,7 +106,7 @@ impl Border {
     }
 
     pub fn left38(self, csel: bool, raster: u16, den: bool) -> Self
-        ensures { λ r. ⌜ r ≡ left38 self csel raster den ⌝ }
+        ensures { λ r. ⌜ r ≡ left38Passed self csel raster den ⌝ }
     {
         let mut b = self.pass_left(!csel, raster, den);
         b.part38 = part(self.main, b.main);
@@ -114,14 +114,14 @@ impl Border {
     }
 
     pub fn right38(mut self, csel: bool) -> Self
-        ensures { λ r. ⌜ r ≡ right38 self csel ⌝ }
+        ensures { λ r. ⌜ r ≡ right38Passed self csel ⌝ }
     {
         self.main = !csel | self.main;
         self
     }
 
     pub fn right40(mut self, csel: bool) -> Self
-        ensures { λ r. ⌜ r ≡ right40 self csel ⌝ }
+        ensures { λ r. ⌜ r ≡ right40Passed self csel ⌝ }
     {
         self.main = csel | self.main;
         self

@@ -1,20 +1,40 @@
 -- The block question and the read agree byte for byte, and where a block turns from RAM to ROM. Assumes nothing.
 use mathlib.Core.Path.{_≡_, refl, sym, _∙_, ap}
-use mathlib.Core.Bool.{Bool, true, false, _&&_, _||_}
+use mathlib.Core.Bool.{Bool, true, false, _&&_, _||_, cond}
 use mathlib.Core.List.{List}
 use Prim.Native.Nat.{ℕ, _+_, _-_, _*_, _/_, _%_, _≤_, _<_}
 use native.Mathlib.Omega.{arith}
-use lib.Dec.{eqb, leb}
+use lib.Dec.{eqb, leb, ltb}
 use lib.ListN.{length, getD}
 use lib.Seq.{getD-take, getD-drop}
-use borrow.Author.Tests.{eq-eqb, le-ltb}
+use borrow.Author.Tests.{eqb-true, ltb-false, eq-eqb, le-ltb}
+use Rattle.laws.proofs.Choice.{passed}
 use Rattle.memory.specs.Memory.{Lent, inRom, readAt, blockRefusal, blockOf}
 use Rattle.memory.proofs.Page.{page, from-1000}
 
 -- what is lent whole, in a bank that there is, is never refused
 pub not-refused : (ram rom : List ℕ) (bank : ℕ) → Lent ram rom → bank ≤ 3 → blockRefusal ram rom bank ≡ 0
 unfolding blockRefusal
-not-refused ram rom bank lent b = simp (lent .inRam, lent .inRom, le-ltb 3 bank b)
+not-refused ram rom bank lent b = simp (lent .wholeRam, lent .wholeRom, le-ltb 3 bank b)
+
+-- and where nothing is refused, all is lent whole, in a bank that there is
+no-bank-above : (b : Bool) → _≡_ {A = ℕ} (cond b 2 0) 0 → b ≡ false
+no-bank-above true e = absurd (omega arith)
+no-bank-above false e = refl
+
+module _ (ram rom : List ℕ) (bank : ℕ) (e : blockRefusal ram rom bank ≡ 0) where
+  roms : (eqb (length ram) 16384 ≡ true) × (_≡_ {A = ℕ} (cond (eqb (length rom) 4096) (cond (ltb 3 bank) 2 0) 1) 0)
+  unfolding blockRefusal
+  roms = passed (eqb (length ram) 16384) _ e
+
+  banks : (eqb (length rom) 4096 ≡ true) × (_≡_ {A = ℕ} (cond (ltb 3 bank) 2 0) 0)
+  banks = passed (eqb (length rom) 4096) _ (roms .1)
+
+  pub unrefused-lent : Lent ram rom
+  unrefused-lent = record { wholeRam = eqb-true (length ram) 16384 (roms .0); wholeRom = eqb-true (length rom) 4096 (banks .0) }
+
+  pub unrefused-bank : bank ≤ 3
+  unrefused-bank = ltb-false 3 bank (no-bank-above (ltb 3 bank) (banks .1))
 
 -- 64 addresses from a multiple of 64 on lie in one page
 one-page : (bank pointer i : ℕ) → i < 64 → inRom bank (pointer * 64 + i) ≡ inRom bank (pointer * 64)

@@ -9,8 +9,8 @@ use Rattle.memory.specs.declared.Found.{Found}
 
 -- 01, Memory: what the host lends
 pub record Lent (ram rom : List ℕ) : Type 0 where
-  pub inRam : length ram ≡ 16384
-  pub inRom : length rom ≡ 4096
+  pub wholeRam : length ram ≡ 16384
+  pub wholeRom : length rom ≡ 4096
 
 -- Bauer 3.1; 01, Memory: the character ROM shows at 0x1000 to 0x1FFF in banks 0 and 2
 unfoldable pub inRom : ℕ → ℕ → Bool

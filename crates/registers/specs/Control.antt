@@ -1,5 +1,5 @@
--- What the bits of the control registers 0x11, 0x16 and 0x18 mean: Bauer 3.2.
-use Prim.Native.Nat.{ℕ, _+_, _*_, _/_, _%_}
+-- What the bits of the control registers 0x11 and 0x16 mean: Bauer 3.2.
+use Prim.Native.Nat.{ℕ, _+_, _%_}
 use mathlib.Core.Bool.{Bool, cond}
 use Rattle.laws.specs.Bits.{hasBit}
 
@@ -29,10 +29,3 @@ CSEL ctrl2 = hasBit ctrl2 3
 -- 01, One tick: 4·ECM + 2·BMM + MCM
 unfoldable pub modeNumber : ℕ → ℕ → ℕ
 modeNumber ctrl1 ctrl2 = cond (ECM ctrl1) 4 0 + cond (BMM ctrl1) 2 0 + cond (MCM ctrl2) 1 0
-
--- Bauer 3.2, 0x18: VM13 to VM10 in bits 7 to 4, CB13 to CB11 in bits 3 to 1
-abbrev pub matrixBase : ℕ → ℕ
-matrixBase ptrs = ptrs / 16 * 0x400
-
-abbrev pub characterBase : ℕ → ℕ
-characterBase ptrs = ptrs / 2 % 8 * 0x800

@@ -51,12 +51,12 @@ colourAt s reg =
     (cond (eqb reg 0x25) (s .mc0) (s .mc1))))))
 
 -- Bauer 3.2: the 64 numbers; 0x2F to 0x3F read 0xFF
-abbrev pub readAt : Registers → Irq → ℕ → ℕ → ℕ → ℕ → ℕ
-readAt s irq raster penx peny reg =
+abbrev pub registerAt : Registers → Irq → ℕ → ℕ → ℕ → ℕ → ℕ
+registerAt s irq raster penx peny reg =
     cond (ltb reg 0x10) (placeAt s reg)
     (cond (ltb reg 0x20) (controlAt s irq raster penx peny reg)
     (cond (ltb reg 0x27) (readColour (colourAt s reg))
     (cond (ltb reg 0x2F) (readColour (getD (s .cols) (reg - 0x27) 0)) 0xFF)))
 
 unfoldable pub readOf : Registers → Irq → ℕ → ℕ → ℕ → ℕ → ℕ
-readOf s irq raster addr penx peny = readAt s irq raster penx peny (addr % 64)
+readOf s irq raster addr penx peny = registerAt s irq raster penx peny (addr % 64)

@@ -1,15 +1,12 @@
 -- The register file, and what a write stores: Bauer 3.2.
-use Prim.Native.Nat.{ℕ, zero, suc, _+_, _-_, _*_, _/_, _%_}
+use Prim.Native.Nat.{ℕ, _+_, _-_, _*_, _/_, _%_}
 use mathlib.Core.Bool.{Bool, false, _&&_, _||_, cond}
 use mathlib.Core.List.{List, [], _∷_}
 use lib.Dec.{ltb, leb, eqb}
 use lib.ListN.{set}
+use Rattle.laws.specs.Lists.{zeros}
 use Rattle.registers.specs.declared.Registers.{Registers}
 use Rattle.registers.specs.Set.{controls≔, yexp≔}
-
-abbrev pub zeros : ℕ → List ℕ
-zeros zero = []
-zeros (suc n) = 0 ∷ zeros n
 
 -- 01: power-up
 abbrev pub fresh : Registers

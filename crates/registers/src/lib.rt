@@ -1,6 +1,7 @@
 // The register file and the interrupt latches, and what the control bits mean.
 ghost use mathlib.Core.Path.{_≡_};
-ghost use Rattle.registers.specs.Control.{DEN, RSEL, YSCROLL, BMM, ECM, CSEL, MCM, modeNumber, matrixBase, characterBase};
+ghost use Rattle.laws.specs.Pointers.{matrixBase, characterBase};
+ghost use Rattle.registers.specs.Control.{DEN, RSEL, YSCROLL, BMM, ECM, CSEL, MCM, modeNumber};
 ghost use Rattle.registers.specs.Irq.{quiet, settled, triggered, cleared, enabled, irqWritten};
 ghost use Rattle.registers.specs.Registers.{fresh, written, controlled, expanded};
 ghost use Rattle.registers.specs.Read.{readControl, readLatches, readColour, controlAt, colourAt, readOf};

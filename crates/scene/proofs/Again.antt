@@ -10,9 +10,10 @@ use borrow.Author.Tests.{ltb-true, eqb-true}
 use mir.Syntax.{w8, w64}
 use mir.Val.{Fits, SFits}
 use mir.Facts.{ofZ-toZ, sfits-toZ}
+use Rattle.laws.specs.Bytes.{lowByte, highByte, word}
 use Rattle.laws.proofs.Choice.{left, right}
 use Rattle.sprites.specs.Sprites.{spriteAt}
-use Rattle.scene.specs.Numbers.{low, high, word, bits, bitBytes, byteAt, longAt, clockAt, clockOf, countOf}
+use Rattle.scene.specs.Numbers.{bits, bitBytes, byteAt, longAt, clockAt, clockOf, aecOf}
 use Rattle.scene.specs.Decode as read
 use Rattle.scene.specs.Decode.{beamAt, registersAt, irqAt, borderAt, spritesAt, wordsAt, matrixAt, busAt, penAt, sideAt, pictureAt, chipAt, headFine, isFlag, earlyFlags, spriteFlags, lateFlags, rangesFine, fieldsFine}
 use Rattle.scene.specs.Encode.{headBytes, registerBytes, maskBytes, spriteBytes, spriteRows, entryBytes, restOf, clockBytes, clocksBytes, encoded}
@@ -79,10 +80,10 @@ module _ (s : List ℕ) (bytes : Bytes s) (fine : fieldsFine s ≡ true) where
 
   -- ---- numbers of two, four and eight bytes
 
-  low-at : (k j : ℕ) → low (word (at k) (at j)) ≡ at k
+  low-at : (k j : ℕ) → lowByte (word (at k) (at j)) ≡ at k
   low-at k j = low-again (at k) (at j) (bytes k)
 
-  high-at : (k j : ℕ) → high (word (at k) (at j)) ≡ at j
+  high-at : (k j : ℕ) → highByte (word (at k) (at j)) ≡ at j
   high-at k j = high-again (at k) (at j) (bytes k)
 
   module _ (k : ℕ) where
@@ -152,7 +153,7 @@ module _ (s : List ℕ) (bytes : Bytes s) (fine : fieldsFine s ≡ true) where
   clocks = λ i. clock-at 275 i ++ clock-at 283 i ++ clock-at 291 i ++ clock-at 299 i
 
   row : (k : ℕ) → isFlag s (k + 4) ≡ true →
-      spriteBytes (read.spriteAt s k) (at (k + 1)) (longAt s (k + 5)) (at (k + 9)) (at (k + 10)) (at (k + 11))
+      spriteBytes (read.spriteFrom s k) (at (k + 1)) (longAt s (k + 5)) (at (k + 9)) (at (k + 10)) (at (k + 11))
       ≡ at k ∷ at (k + 1) ∷ at (k + 2) ∷ at (k + 3) ∷ at (k + 4) ∷ at (k + 5) ∷ at (k + 5 + 1) ∷ at (k + 5 + 2) ∷ at (k + 5 + 3) ∷ at (k + 9) ∷ at (k + 10) ∷ at (k + 11) ∷ []
   row k e =
       λ i.
@@ -193,8 +194,8 @@ module _ (s : List ℕ) (bytes : Bytes s) (fine : fieldsFine s ≡ true) where
   unfolding clockOf
   clock-fits k = sfits-toZ (clock-below k)
 
-  count-fits : SFits w8 (countOf (at 274))
-  unfolding countOf
+  count-fits : SFits w8 (aecOf (at 274))
+  unfolding aecOf
   count-fits = sfits-toZ {w = w8} (record { fits = bytes 274 })
 
   pub chip-saved : Saved (chipAt s)

@@ -8,7 +8,7 @@ use Rattle.sprites.specs.declared.Sprite.{Sprite}
 use Rattle.sprites.specs.Set.{each≔}
 use Rattle.sprites.specs.Sprites.{spriteAt, none}
 use Rattle.sequencer.specs.declared.Chip.{Chip}
-use Rattle.scene.specs.Numbers.{byteAt, flagAt, placeOf}
+use Rattle.scene.specs.Numbers.{byteAt, flagAt, pendingOf}
 use Rattle.scene.specs.Decode.{beamAt, registersAt, irqAt, borderAt, spritesAt, pointersAt, wordsAt, spriteBytesAt, rowsAt, busAt, frameAt, penAt, matrixAt, sideAt, pictureAt, chipAt, fieldsFine}
 use Rattle.scene.specs.Encode.{encoded}
 use Rattle.scene.specs.Saved.{Saved}
@@ -71,7 +71,7 @@ module _ (c : Chip) (s : Saved c) where
   unfolding encoded matrixAt
   matrix = simp word-back (listed 0 (c .picture .matrix) 40 (s .matrix))
 
-  place : placeOf (byteAt (encoded c) 307) ≡ c .side .pending
+  place : pendingOf (byteAt (encoded c) 307) ≡ c .side .pending
   unfolding encoded
   place = place-back (c .side .pending) (s .place)
 

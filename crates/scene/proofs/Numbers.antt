@@ -10,15 +10,16 @@ use borrow.Author.Tests.{ltb-true, lt-ltb, ne-eqb, eqb-true}
 use mir.Syntax.{w8, w64}
 use mir.Val.{SFits, toZ, ofZ}
 use mir.Facts.{toZ-ofZ, ofZ-toZ, fits-ofZ}
+use Rattle.laws.specs.Bytes.{lowByte, highByte, word}
 use Rattle.laws.proofs.Choice.{by-test}
 use Rattle.access.specs.declared.Pending.{Pending}
 use Rattle.access.specs.declared.Pending.the-variants.{Nothing, At}
-use Rattle.scene.specs.Numbers.{low, high, word, long, bits, clockOf, countByte, countOf, flagByte, flagOf, placeByte, placeOf}
-use Rattle.scene.specs.Saved.{OnLine}
+use Rattle.access.specs.Matrix.{Pends}
+use Rattle.scene.specs.Numbers.{long, bits, clockOf, countByte, aecOf, flagByte, flagOf, placeByte, pendingOf}
 
 -- ---- a number, its bytes, the number
 
-pub word-back : (x : ℕ) → word (low x) (high x) ≡ x
+pub word-back : (x : ℕ) → word (lowByte x) (highByte x) ≡ x
 word-back x = omega arith
 
 -- what is left above some bytes is the next byte and what is left above that
@@ -43,26 +44,26 @@ pub flag-fine : (f : Bool) → ltb (flagByte f) 2 ≡ true
 flag-fine false = refl
 flag-fine true = refl
 
-pub count-back : (z : ℤ) → SFits w8 z → countOf (countByte z) ≡ z
-unfolding countByte countOf
+pub count-back : (z : ℤ) → SFits w8 z → aecOf (countByte z) ≡ z
+unfolding countByte aecOf
 count-back z f = toZ-ofZ f
 
-pub place-back : (p : Pending) → OnLine p → placeOf (placeByte p) ≡ p
-unfolding placeOf placeByte
+pub place-back : (p : Pending) → Pends p → pendingOf (placeByte p) ≡ p
+unfolding pendingOf placeByte
 place-back Nothing h = refl
 place-back (At p) h = rw (ne-eqb p 255 (λ (e : p ≡ 255). let k : p < 40 = h in omega arith))
 
-pub place-fine : (p : Pending) → OnLine p → (eqb (placeByte p) 255 || ltb (placeByte p) 40) ≡ true
+pub place-fine : (p : Pending) → Pends p → (eqb (placeByte p) 255 || ltb (placeByte p) 40) ≡ true
 unfolding placeByte
 place-fine Nothing h = refl
 place-fine (At p) h = rw (ne-eqb p 255 (λ (e : p ≡ 255). let k : p < 40 = h in omega arith), lt-ltb p 40 h)
 
 -- ---- the other way: bytes, their number, the bytes
 
-pub low-again : (l h : ℕ) → l < 256 → low (word l h) ≡ l
+pub low-again : (l h : ℕ) → l < 256 → lowByte (word l h) ≡ l
 low-again l h p = omega arith
 
-pub high-again : (l h : ℕ) → l < 256 → high (word l h) ≡ h
+pub high-again : (l h : ℕ) → l < 256 → highByte (word l h) ≡ h
 high-again l h p = omega arith
 
 module _ (a b c d : ℕ) (p : a < 256) (q : b < 256) (r : c < 256) (t : d < 256) where
@@ -147,14 +148,14 @@ long-fits a b c d p q r t = omega arith
 pub joined-fits : (l h : ℕ) → l < 4294967296 → h < 4294967296 → joined l h < 18446744073709551616
 joined-fits l h p q = omega arith
 
-pub count-again : (b : ℕ) → b < 256 → countByte (countOf b) ≡ b
-unfolding countByte countOf
+pub count-again : (b : ℕ) → b < 256 → countByte (aecOf b) ≡ b
+unfolding countByte aecOf
 count-again b h = ofZ-toZ {w = w8} (record { fits = h })
 
-pub place-again : (b : ℕ) → placeByte (placeOf b) ≡ b
-unfolding placeByte placeOf
+pub place-again : (b : ℕ) → placeByte (pendingOf b) ≡ b
+unfolding placeByte pendingOf
 place-again b = by-test (λ (p : Pending). placeByte p ≡ b) (eqb b 255) (λ e. sym (eqb-true b 255 e)) (λ e. refl)
 
-pub place-on-line : (b : ℕ) → (eqb b 255 || ltb b 40) ≡ true → OnLine (placeOf b)
-unfolding placeOf
-place-on-line b h = by-test OnLine (eqb b 255) (λ e. tt) (λ e. ltb-true b 40 (rw e at h))
+pub place-on-line : (b : ℕ) → (eqb b 255 || ltb b 40) ≡ true → Pends (pendingOf b)
+unfolding pendingOf
+place-on-line b h = by-test Pends (eqb b 255) (λ e. tt) (λ e. ltb-true b 40 (rw e at h))

@@ -3,11 +3,12 @@ use Prim.Native.Nat.{ℕ, zero, suc, _<_}
 use mathlib.Core.Path.{refl}
 use lib.Dec.{lit<}
 use lib.ListN.{getD}
+use Rattle.laws.specs.Lists.{zeros}
 use Rattle.sprites.specs.Sprites.{allFresh}
 use Rattle.arbitration.specs.Bus as Buses
 use Rattle.side.specs.Turn.{freshSide}
 use Rattle.picture.specs.Pen.{freshPen}
-use Rattle.sequencer.specs.Chip.{powered, zeros}
+use Rattle.sequencer.specs.Chip.{powered}
 use Rattle.scene.specs.Saved.{Saved}
 
 no-word : (n k : ℕ) → getD (zeros n) k 0 < 4294967296

@@ -19,7 +19,7 @@ use Rattle.sequencer.specs.declared.Picture.{Picture}
 use Rattle.sequencer.specs.declared.Chip.{Chip}
 use Rattle.sequencer.specs.Chip.{powered}
 use Rattle.scene.specs.declared.Decoded.{Decoded}
-use Rattle.scene.specs.Numbers.{byteAt, wordAt, longAt, clockAt, flagAt, countOf, placeOf}
+use Rattle.scene.specs.Numbers.{byteAt, wordAt, longAt, clockAt, flagAt, aecOf, pendingOf}
 
 abbrev pub eightAt : List ℕ → ℕ → List ℕ
 eightAt s i =
@@ -81,15 +81,15 @@ borderAt s =
     }
 
 -- a sprite, twelve bytes from i: its pointer, its word and its bytes go to the picture
-abbrev pub spriteAt : List ℕ → ℕ → Sprite
-spriteAt s i = record { number = byteAt s i; mc = byteAt s (i + 2); base = byteAt s (i + 3); dma = flagAt s (i + 4) }
+abbrev pub spriteFrom : List ℕ → ℕ → Sprite
+spriteFrom s i = record { number = byteAt s i; mc = byteAt s (i + 2); base = byteAt s (i + 3); dma = flagAt s (i + 4) }
 
 -- sprite masks from 69, and eight sprites from 75
 abbrev pub spritesAt : List ℕ → Sprites
 spritesAt s =
     record {
       each =
-          spriteAt s 75 ∷ spriteAt s 87 ∷ spriteAt s 99 ∷ spriteAt s 111 ∷ spriteAt s 123 ∷ spriteAt s 135 ∷ spriteAt s 147 ∷ spriteAt s 159 ∷ [];
+          spriteFrom s 75 ∷ spriteFrom s 87 ∷ spriteFrom s 99 ∷ spriteFrom s 111 ∷ spriteFrom s 123 ∷ spriteFrom s 135 ∷ spriteFrom s 147 ∷ spriteFrom s 159 ∷ [];
       flip = byteAt s 69;
       clear = byteAt s 70;
       dma = byteAt s 71;
@@ -144,7 +144,7 @@ busAt s =
       clock = clockAt s 299;
       fall = clockAt s 275;
       rise = clockAt s 283;
-      aec = countOf (byteAt s 274);
+      aec = aecOf (byteAt s 274);
       balow = flagAt s 257;
       aeclow = flagAt s 258;
     }
@@ -174,7 +174,7 @@ sideAt s =
       sprites = spritesAt s;
       bus = busAt s;
       rows = rowsAt s;
-      pending = placeOf (byteAt s 307);
+      pending = pendingOf (byteAt s 307);
       changed = flagAt s 259;
     }
 

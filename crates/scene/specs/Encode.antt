@@ -5,6 +5,7 @@ use mathlib.Core.Bool.{Bool}
 use mathlib.Core.List.{List, [], _∷_, _++_}
 use lib.IntN.{ℤ}
 use lib.ListN.{length, take, getD}
+use Rattle.laws.specs.Bytes.{lowByte, highByte}
 use Rattle.registers.specs.declared.Irq.{Irq}
 use Rattle.registers.specs.declared.Registers.{Registers}
 use Rattle.timing.specs.declared.Beam.{Beam}
@@ -19,13 +20,13 @@ use Rattle.side.specs.declared.Side.{Side}
 use Rattle.picture.specs.declared.Pen.{Pen}
 use Rattle.sequencer.specs.declared.Picture.{Picture}
 use Rattle.sequencer.specs.declared.Chip.{Chip}
-use Rattle.scene.specs.Numbers.{low, high, longBytes, bits, bitBytes, countByte, flagByte, placeByte}
+use Rattle.scene.specs.Numbers.{longBytes, bits, bitBytes, countByte, flagByte, placeByte}
 
 -- head: 'N' 'P' 'S' and the version; then timing
 abbrev pub headBytes : Beam → List ℕ
 headBytes b =
     78 ∷ 80 ∷ 83 ∷ 1
-    ∷ low (b .cycle) ∷ high (b .cycle) ∷ low (b .raster) ∷ high (b .raster)
+    ∷ lowByte (b .cycle) ∷ highByte (b .cycle) ∷ lowByte (b .raster) ∷ highByte (b .raster)
     ∷ flagByte (b .den) ∷ flagByte (b .rsel) ∷ b .yscroll ∷ flagByte (b .bad) ∷ flagByte (b .rising) ∷ flagByte (b .ba) ∷ []
 
 abbrev pub eight : List ℕ → List ℕ → List ℕ
@@ -37,14 +38,14 @@ registerBytes r =
     eight (r .mx) (eight (r .my) (eight (r .cols)
     (getD (r .bg) 0 0 ∷ getD (r .bg) 1 0 ∷ getD (r .bg) 2 0 ∷ getD (r .bg) 3 0
     ∷ r .msbx ∷ r .enable ∷ r .yexp ∷ r .xexp ∷ r .prio ∷ r .multi ∷ r .mc0 ∷ r .mc1
-    ∷ r .ctrl1 ∷ r .ctrl2 ∷ low (r .compare) ∷ high (r .compare) ∷ r .ptrs ∷ r .border ∷ [])))
+    ∷ r .ctrl1 ∷ r .ctrl2 ∷ lowByte (r .compare) ∷ highByte (r .compare) ∷ r .ptrs ∷ r .border ∷ [])))
 
 -- interrupt, border, sprite masks
 abbrev pub maskBytes : Irq → Border → Sprites → List ℕ
 maskBytes i b s =
     i .flags ∷ i .enable ∷ flagByte (i .line)
     ∷ flagByte (b .vertical) ∷ flagByte (b .main) ∷ flagByte (b .old) ∷ flagByte (b .disabled)
-    ∷ b .part40 ∷ b .part38 ∷ low (b .top) ∷ high (b .top) ∷ low (b .bottom) ∷ high (b .bottom)
+    ∷ b .part40 ∷ b .part38 ∷ lowByte (b .top) ∷ highByte (b .top) ∷ lowByte (b .bottom) ∷ highByte (b .bottom)
     ∷ s .flip ∷ s .clear ∷ s .dma ∷ s .prev ∷ s .display ∷ s .vmatch ∷ []
 
 -- a sprite: number, pointer, MC, MC base, DMA flag, word, three bytes
@@ -66,15 +67,15 @@ spriteRows s p (suc n) = spriteRows s p n ++ spriteRow s p n
 -- the first n entries of the matrix line
 abbrev pub entryBytes : List ℕ → ℕ → List ℕ
 entryBytes m zero = []
-entryBytes m (suc n) = entryBytes m n ++ (low (getD m n 0) ∷ high (getD m n 0) ∷ [])
+entryBytes m (suc n) = entryBytes m n ++ (lowByte (getD m n 0) ∷ highByte (getD m n 0) ∷ [])
 
 -- the rest, up to the AEC counter, which comes as its byte
 abbrev pub restBytes : Rows → Bus → Bool → Pen → Frame → ℕ → List ℕ
 restBytes r b changed p f aec =
-    low (r .vc) ∷ high (r .vc) ∷ low (r .vcbase) ∷ high (r .vcbase) ∷ r .rc ∷ r .vmli
+    lowByte (r .vc) ∷ highByte (r .vc) ∷ lowByte (r .vcbase) ∷ highByte (r .vcbase) ∷ r .rc ∷ r .vmli
     ∷ flagByte (b .balow) ∷ flagByte (b .aeclow) ∷ flagByte changed
     ∷ flagByte (r .display) ∷ flagByte (r .transition) ∷ flagByte (r .access)
-    ∷ p .mode ∷ p .old ∷ flagByte (p .changing) ∷ low (p .ch) ∷ high (p .ch) ∷ low (p .carry) ∷ high (p .carry) ∷ p .gfx
+    ∷ p .mode ∷ p .old ∷ flagByte (p .changing) ∷ lowByte (p .ch) ∷ highByte (p .ch) ∷ lowByte (p .carry) ∷ highByte (p .carry) ∷ p .gfx
     ∷ flagByte (f .latch) ∷ flagByte (f .ending) ∷ flagByte (f .matched) ∷ aec ∷ []
 
 abbrev pub restOf : Side → Pen → List ℕ

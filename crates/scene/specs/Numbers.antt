@@ -7,20 +7,11 @@ use lib.IntN.{ℤ}
 use lib.ListN.{getD}
 use mir.Syntax.{w8, w64}
 use mir.Val.{toZ, ofZ, boolByte}
+use Rattle.laws.specs.Bytes.{word}
 use Rattle.access.specs.declared.Pending.{Pending}
 use Rattle.access.specs.declared.Pending.the-variants.{Nothing, At}
 
--- formats.md, Scene: a number of two bytes
-abbrev pub low : ℕ → ℕ
-low x = x % 256
-
-abbrev pub high : ℕ → ℕ
-high x = x / 256
-
-abbrev pub word : ℕ → ℕ → ℕ
-word l h = l + h * 256
-
--- of four
+-- formats.md, Scene: a number of four bytes
 abbrev pub longBytes : ℕ → List ℕ
 longBytes x = x % 256 ∷ x / 256 % 256 ∷ x / 65536 % 256 ∷ x / 16777216 % 256 ∷ []
 
@@ -42,8 +33,8 @@ bitBytes b =
 unfoldable pub countByte : ℤ → ℕ
 countByte z = ofZ w8 z
 
-unfoldable pub countOf : ℕ → ℤ
-countOf b = toZ w8 b
+unfoldable pub aecOf : ℕ → ℤ
+aecOf b = toZ w8 b
 
 -- formats.md, Scene: a flag is 0 or 1
 abbrev pub flagByte : Bool → ℕ
@@ -57,8 +48,8 @@ unfoldable pub placeByte : Pending → ℕ
 placeByte Nothing = 255
 placeByte (At p) = p
 
-unfoldable pub placeOf : ℕ → Pending
-placeOf b = cond (eqb b 255) Nothing (At b)
+unfoldable pub pendingOf : ℕ → Pending
+pendingOf b = cond (eqb b 255) Nothing (At b)
 
 -- a field of a list of bytes, by its place
 abbrev pub byteAt : List ℕ → ℕ → ℕ

@@ -5,22 +5,16 @@ use mathlib.Core.List.{List}
 use lib.ListN.{length, getD}
 use mir.Syntax.{w8, w64}
 use mir.Val.{SFits}
-use Rattle.access.specs.declared.Pending.{Pending}
-use Rattle.access.specs.declared.Pending.the-variants.{Nothing, At}
+use Rattle.access.specs.Matrix.{Pends}
 use Rattle.sequencer.specs.declared.Chip.{Chip}
 use Rattle.scene.specs.Numbers.{byteAt}
-
--- nothing pending, or a place of the matrix line
-abbrev pub OnLine : Pending → Type 0
-OnLine Nothing = Unit
-OnLine (At p) = p < 40
 
 -- Both modes are below 8 and the pending place is on the line. The rest holds of every chip that a program has, by its types: its arrays have their lengths,
 -- a sprite's word fits 32 bits, the AEC counter 8 and a clock 64. (The other numbers come back whatever they are.)
 pub record Saved (c : Chip) : Type 0 where
   pub mode : c .picture .pen .mode < 8
   pub old : c .picture .pen .old < 8
-  pub place : OnLine (c .side .pending)
+  pub place : Pends (c .side .pending)
   pub mx : length (c .regs .mx) ≡ 8
   pub my : length (c .regs .my) ≡ 8
   pub cols : length (c .regs .cols) ≡ 8

@@ -4,8 +4,9 @@ ghost use mathlib.Core.Path.{_≡_};
 ghost use mathlib.Core.List.{_∷_, []};
 ghost use Prim.Native.Nat.{_+_, _*_, _/_, _%_, _≤_, _<_};
 ghost use lib.ListN.{length};
-ghost use Rattle.scene.specs.Numbers.{low, high, bits, clockOf, countByte, countOf, placeByte, placeOf, wordAt, longAt, clockAt};
-ghost use Rattle.scene.specs.Decode.{eightAt, beamAt, registersAt, irqAt, borderAt, spriteAt, spritesAt, pointersAt, wordsAt, spriteBytesAt, matrixAt, rowsAt, busAt, frameAt, penAt, sideAt, pictureAt, chipAt, headFine, earlyFlags, spriteFlags, lateFlags, rangesFine, fieldsFine, noScene, decodedFields, decoded};
+ghost use Rattle.laws.specs.Bytes.{lowByte, highByte};
+ghost use Rattle.scene.specs.Numbers.{bits, clockOf, countByte, aecOf, placeByte, pendingOf, wordAt, longAt, clockAt};
+ghost use Rattle.scene.specs.Decode.{eightAt, beamAt, registersAt, irqAt, borderAt, spriteFrom, spritesAt, pointersAt, wordsAt, spriteBytesAt, matrixAt, rowsAt, busAt, frameAt, penAt, sideAt, pictureAt, chipAt, headFine, earlyFlags, spriteFlags, lateFlags, rangesFine, fieldsFine, noScene, decodedFields, decoded};
 ghost use Rattle.scene.specs.Encode.{headBytes, registerBytes, maskBytes, spriteBytes, spriteRow, spriteRows, entryBytes, restOf, clockBytes, clocksBytes, restBytes, encoded, Put};
 use access::Pending;
 use arbitration::Bus;
@@ -72,7 +73,7 @@ fn count_byte(x: i8) -> u8
 }
 
 fn count_of(b: u8) -> i8
-    ensures { λ r. ⌜ r ≡ countOf b ⌝ }
+    ensures { λ r. ⌜ r ≡ aecOf b ⌝ }
 {
     if b < 128 {
         return b as i8;
@@ -90,7 +91,7 @@ fn place_byte(p: Pending) -> u8
 }
 
 fn place_of(b: u8) -> Pending
-    ensures { λ r. ⌜ r ≡ placeOf b ⌝ }
+    ensures { λ r. ⌜ r ≡ pendingOf b ⌝ }
 {
     if b == 255 {
         return Pending::Nothing;
@@ -208,7 +209,7 @@ fn border_at(bytes: &[u8]) -> Border
 
 fn sprite_at(bytes: &[u8], at: usize) -> Sprite
     requires { ⌜ at + 12 ≤ length (now bytes) ⌝ }
-    ensures { λ r. ⌜ r ≡ spriteAt (now (bytes .entry)) at ⌝ }
+    ensures { λ r. ⌜ r ≡ spriteFrom (now (bytes .entry)) at ⌝ }
 {
     Sprite {
         number: bytes[at],
@@ -749,7 +750,7 @@ fn put_sprites(out: &mut [u8], s: Sprites, p: Picture)
 
 fn put_word(out: &mut [u8], at: usize, x: u16)
     requires { ⌜ at + 2 ≤ length (now out) ⌝ }
-    ensures { λ r. ⌜ Put (now (out .entry)) (now (out .exit)) at (at + 2) (low x ∷ high x ∷ []) ⌝ }
+    ensures { λ r. ⌜ Put (now (out .entry)) (now (out .exit)) at (at + 2) (lowByte x ∷ highByte x ∷ []) ⌝ }
 {
     let pair = [(x % 256) as u8, (x / 256) as u8];
     put(out, at, &pair);

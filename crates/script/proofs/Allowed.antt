@@ -7,6 +7,7 @@ use native.Mathlib.Omega.{arith}
 use lib.Dec.{eqb, leb, ltb, eqb·suc-zero}
 use lib.ListN.{length, getD, drop}
 use borrow.Author.Tests.{leb-true, leb-false}
+use Rattle.laws.specs.Bytes.{word}
 use Rattle.laws.proofs.Choice.{either, by-test, left}
 use Rattle.script.specs.declared.Step.{Step}
 use Rattle.script.specs.declared.Step.the-variants.{Tick, Write, Expand, Controls, Late, Borders, Display, Bank}
@@ -22,9 +23,9 @@ use Rattle.script.specs.declared.Item.{Item}
 use Rattle.script.specs.declared.Item.the-variants as item
 use Rattle.script.specs.declared.Cursor.{Cursor}
 use Rattle.script.specs.declared.Found.{Found}
-use Rattle.script.specs.Step.{wordOf, allowedIf, decoded, stepOf, allowed}
+use Rattle.script.specs.Step.{allowedIf, stepDecoded, stepOf, allowed}
 use Rattle.script.specs.File.{sizeOf, countOf, changeOf, endOf}
-use Rattle.script.specs.Cursor.{stays, countFrom, changeFrom, stepFrom, changesBegun, stepsBegun, changed, done, begun, recorded, nextOf}
+use Rattle.script.specs.Cursor.{stays, countFrom, changeFrom, stepFrom, changesBegun, stepsBegun, changed, stepRead, begun, recorded, nextOf}
 
 -- 01, Run file: an address that is read lies in its memory
 abbrev Inside : ℕ → Change → Type 0
@@ -36,7 +37,7 @@ refused size number address value e = absurd (let z : _≡_ {A = ℕ} 0 1 = cc i
 pub address-inside : (size : ℕ) (s : List ℕ) → Inside size (changeOf size s)
 unfolding changeOf
 address-inside size s =
-    let n = wordOf (getD s 0 0) (getD s 1 0) in
+    let n = word (getD s 0 0) (getD s 1 0) in
     either (Inside size) (ltb (length s) 3) (refused size 7)
     (by-test (Inside size) (leb size n) (λ e. refused size 8)
     (λ e address value q. let same : n ≡ address = cc in omega (arith, leb-false size n e)))
@@ -53,13 +54,13 @@ fine-if false x h step e = absurd (let z : _≡_ {A = ℕ} 0 1 = cc in omega ari
 fine-refused : (number : ℕ) → Fine (Refused number)
 fine-refused number step e = absurd (let z : _≡_ {A = ℕ} 0 1 = cc in omega arith)
 
-fine : (kind a b c d : ℕ) → Fine (decoded kind a b c d)
-unfolding decoded allowed
+fine : (kind a b c d : ℕ) → Fine (stepDecoded kind a b c d)
+unfolding stepDecoded allowed
 fine kind a b c d =
     either Fine (eqb kind 0) (fine-if (eqb a 0 && eqb b 0 && eqb c 0 && eqb d 0) Tick (λ e. refl))
     (either Fine (eqb kind 1) (fine-if (eqb c 0 && eqb d 0) (Write a b) (λ e. refl))
     (either Fine (eqb kind 2) (fine-if (eqb b 0 && eqb c 0 && eqb d 0) (Expand a) (λ e. refl))
-    (either Fine (eqb kind 3) (fine-if (leb (wordOf c d) 511) (Controls a b (wordOf c d)) (λ e. e))
+    (either Fine (eqb kind 3) (fine-if (leb (word c d) 511) (Controls a b (word c d)) (λ e. e))
     (either Fine (eqb kind 4) (fine-if (eqb b 0 && eqb c 0 && eqb d 0) (Late a) (λ e. refl))
     (either Fine (eqb kind 5) (fine-if (eqb a 0 && eqb b 0 && eqb c 0 && eqb d 0) Borders (λ e. refl))
     (either Fine (eqb kind 6) (fine-if (leb a 1 && leb b 1 && leb c 1 && leb d 1) (Display (eqb a 1) (eqb b 1) (eqb c 1) (eqb d 1)) (λ e. refl))
@@ -125,7 +126,7 @@ module _ (s : List ℕ) (at : ℕ) where
   bytes = drop at s
 
   held : (p : Part) (n : ℕ) → Held (nextOf s (here p n))
-  unfolding nextOf begun recorded changesBegun stepsBegun changed done
+  unfolding nextOf begun recorded changesBegun stepsBegun changed stepRead
   held part.Start zero = held-count (here part.Start 0) (item.Changes part.Ram) part.Ram (no-changes part.Ram) (countOf 16384 bytes)
   held part.Ram zero = held-count (here part.Ram 0) (item.Changes part.Rom) part.Rom (no-changes part.Rom) (countOf 4096 bytes)
   held part.Rom zero = held-count (here part.Rom 0) (item.Changes part.Colour) part.Colour (no-changes part.Colour) (countOf 1024 bytes)

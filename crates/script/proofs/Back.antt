@@ -8,18 +8,19 @@ use lib.Dec.{eqb, leb}
 use lib.ListN.{length}
 use native.Mathlib.Decide.{decLt}
 use borrow.Author.Tests.{le-ltb, eq-eqb, ne-eqb, eqb-true, leb-true}
-use Rattle.laws.proofs.Choice.{left, right}
+use Rattle.laws.specs.Bytes.{word}
+use Rattle.laws.proofs.Choice.{left, right, and-true}
 use Rattle.script.specs.declared.Step.{Step}
 use Rattle.script.specs.declared.Step.the-variants.{Tick, Write, Expand, Controls, Late, Borders, Display, Bank}
 use Rattle.script.specs.declared.Read.the-variants.{Got, Refused}
-use Rattle.script.specs.Step.{wordOf, allowedIf, decoded, stepOf, byteOf, bytesOf, allowed}
+use Rattle.script.specs.Step.{allowedIf, stepDecoded, stepOf, byteOf, bytesOf, allowed}
 
 -- five bytes that are there are judged
-there : (k a b c d : ℕ) (more : List ℕ) → stepOf (k ∷ a ∷ b ∷ c ∷ d ∷ more) ≡ decoded k a b c d
+there : (k a b c d : ℕ) (more : List ℕ) → stepOf (k ∷ a ∷ b ∷ c ∷ d ∷ more) ≡ stepDecoded k a b c d
 unfolding stepOf
 there k a b c d more = simp (le-ltb (length (k ∷ a ∷ b ∷ c ∷ d ∷ more)) 5 (omega arith))
 
-word-back : (n : ℕ) → wordOf (n % 256) (n / 256) ≡ n
+word-back : (n : ℕ) → word (n % 256) (n / 256) ≡ n
 word-back n = omega arith
 
 flag-small : (flag : Bool) → leb (byteOf flag) 1 ≡ true
@@ -30,13 +31,9 @@ flag-back : (flag : Bool) → eqb (byteOf flag) 1 ≡ flag
 flag-back true = refl
 flag-back false = refl
 
-and-true : (b : Bool) → (b && true) ≡ b
-and-true true = refl
-and-true false = refl
-
 -- 01, Run file: what is written down is read back, and what is not allowed is refused
 pub read-back : (step : Step) (more : List ℕ) → stepOf (bytesOf step ++ more) ≡ allowedIf (allowed step) step
-unfolding decoded bytesOf allowed
+unfolding stepDecoded bytesOf allowed
 read-back Tick more = there 0 0 0 0 0 more
 read-back (Write address value) more = there 1 address value 0 0 more
 read-back (Expand value) more = there 2 value 0 0 0 more
@@ -108,8 +105,8 @@ module _ (a b c d : ℕ) (e : (leb a 1 && leb b 1 && leb c 1 && leb d 1) ≡ tru
   )
 
 -- a kind above 7 is none
-no-kind : (k a b c d : ℕ) (step : Step) → decoded (suc (suc (suc (suc (suc (suc (suc (suc k)))))))) a b c d ≡ Got step → ⊥
-unfolding decoded
+no-kind : (k a b c d : ℕ) (step : Step) → stepDecoded (suc (suc (suc (suc (suc (suc (suc (suc k)))))))) a b c d ≡ Got step → ⊥
+unfolding stepDecoded
 no-kind k a b c d step e =
     let n = suc (suc (suc (suc (suc (suc (suc (suc k))))))) in
     let refused : Refused 8 ≡ Got step =
@@ -126,8 +123,8 @@ no-kind k a b c d step e =
     let z : _≡_ {A = ℕ} 0 1 = cc in omega arith
 
 -- 01, Run file: a record that is read as a step is that step written down
-pub written : (kind a b c d : ℕ) (step : Step) → c < 256 → decoded kind a b c d ≡ Got step → bytesOf step ≡ kind ∷ a ∷ b ∷ c ∷ d ∷ []
-unfolding decoded bytesOf
+pub written : (kind a b c d : ℕ) (step : Step) → c < 256 → stepDecoded kind a b c d ≡ Got step → bytesOf step ≡ kind ∷ a ∷ b ∷ c ∷ d ∷ []
+unfolding stepDecoded bytesOf
 written zero a b c d step h e =
     let p = passed (eqb a 0 && eqb b 0 && eqb c 0 && eqb d 0) Tick step e in
     let z = zero3 (eqb a 0) b c d (p .0) in
@@ -142,9 +139,9 @@ written (suc (suc zero)) a b c d step h e =
     let z = zero3 true b c d (p .0) in
     simp (sym (p .1), z .0, z .1, z .2)
 written (suc (suc (suc zero))) a b c d step h e =
-    let p = passed (leb (wordOf c d) 511) (Controls a b (wordOf c d)) step e in
-    let low : wordOf c d % 256 ≡ c = omega arith in
-    let high : wordOf c d / 256 ≡ d = omega arith in
+    let p = passed (leb (word c d) 511) (Controls a b (word c d)) step e in
+    let low : word c d % 256 ≡ c = omega arith in
+    let high : word c d / 256 ≡ d = omega arith in
     simp (sym (p .1), low, high)
 written (suc (suc (suc (suc zero)))) a b c d step h e =
     let p = passed (eqb b 0 && eqb c 0 && eqb d 0) (Late a) step e in

@@ -12,7 +12,7 @@ use lib.Seq.{take-nil, take-all, getD-take, drop-drop}
 use borrow.Author.Tests.{le-ltb, ltb-true, ltb-false}
 use Rattle.laws.proofs.Choice.{by-test}
 use Rattle.script.specs.Step.{stepOf}
-use Rattle.script.specs.Block.{blockSteps, blockLen, blockOf}
+use Rattle.script.specs.Block.{blockSteps, blockLen, blockFrom}
 
 -- 01, Run file: a block is at most 13,107 steps, none more than are left; there is one while steps are left
 pub record Lent (left : ℕ) : Type 0 where
@@ -56,7 +56,7 @@ drop-take (suc k) m [] = ap (drop (suc k)) (take-nil (suc k + m)) ∙ sym (take-
 drop-take (suc k) m (x ∷ s) = ap (λ (n : ℕ). drop (suc k) (take n (x ∷ s))) (suc-add k m) ∙ drop-take k m s
 
 -- 01, Run file: each step of a block is the file's step there, and where the file ends early in it, both say so
-pub block-reads : (s : List ℕ) (at left i : ℕ) → i < blockSteps left → stepOf (drop (i * 5) (blockOf left (drop at s))) ≡ stepOf (drop (at + i * 5) s)
+pub block-reads : (s : List ℕ) (at left i : ℕ) → i < blockSteps left → stepOf (drop (i * 5) (blockFrom left (drop at s))) ≡ stepOf (drop (at + i * 5) s)
 block-reads s at left i h =
     let m = blockLen left - i * 5 in
     let all : blockLen left ≡ i * 5 + m = omega arith in

@@ -21,7 +21,7 @@ use Rattle.script.specs.declared.Cursor.{Cursor}
 use Rattle.script.specs.declared.Found.{Found}
 use Rattle.script.specs.Step.{stepOf}
 use Rattle.script.specs.File.{sizeOf, countOf, changeOf, endOf, afterCount, afterChange, afterStep, changes, section, steps, script, runOf}
-use Rattle.script.specs.Cursor.{stays, countFrom, changeFrom, stepFrom, changesBegun, stepsBegun, changed, done, begun, recorded, startOf, nextOf, isLast, readFrom}
+use Rattle.script.specs.Cursor.{stays, countFrom, changeFrom, stepFrom, changesBegun, stepsBegun, changed, stepRead, begun, recorded, startOf, nextOf, isLast, readFrom}
 use Rattle.script.proofs.Room.{count-room, change-room, step-room}
 
 -- what the file still says where so many records of a part are left
@@ -82,7 +82,7 @@ module _ (s : List ℕ) (at : ℕ) where
   bytes = drop at s
 
   turn : (p : Part) (n : ℕ) → Turn s (here p n) (ahead p n bytes) (nextOf s (here p n))
-  unfolding ahead changes section script runOf steps nextOf begun recorded changesBegun stepsBegun changed done
+  unfolding ahead changes section script runOf steps nextOf begun recorded changesBegun stepsBegun changed stepRead
   turn part.Start zero = at-count s (here part.Start 0) (item.Changes part.Ram) (ahead part.Ram) 16384 part.Ram (λ n. refl) (λ n t. refl) (countOf 16384 bytes) refl
   turn part.Ram zero = at-count s (here part.Ram 0) (item.Changes part.Rom) (ahead part.Rom) 4096 part.Rom (λ n. refl) (λ n t. refl) (countOf 4096 bytes) refl
   turn part.Rom zero = at-count s (here part.Rom 0) (item.Changes part.Colour) (ahead part.Colour) 1024 part.Colour (λ n. refl) (λ n t. refl) (countOf 1024 bytes) refl

@@ -14,5 +14,5 @@ abbrev pub blockLen : ℕ → ℕ
 blockLen left = blockSteps left * 5
 
 -- what is lent, of the bytes from the place on
-abbrev pub blockOf : ℕ → List ℕ → List ℕ
-blockOf left s = take (blockLen left) s
+abbrev pub blockFrom : ℕ → List ℕ → List ℕ
+blockFrom left s = take (blockLen left) s

@@ -48,8 +48,8 @@ stepsBegun s c = countFrom c item.Steps part.Steps (countOf 65535 (drop (c .at) 
 unfoldable pub changed : List ℕ → Cursor → Part → Found
 changed s c memory = changeFrom c memory (changeOf (sizeOf memory) (drop (c .at) s))
 
-unfoldable pub done : List ℕ → Cursor → Found
-done s c = stepFrom c (stepOf (drop (c .at) s))
+unfoldable pub stepRead : List ℕ → Cursor → Found
+stepRead s c = stepFrom c (stepOf (drop (c .at) s))
 
 -- the part's records are all read: the next count, or the end
 unfoldable pub begun : Part → List ℕ → Cursor → Found
@@ -65,7 +65,7 @@ recorded part.Start s c = changed s c part.Start
 recorded part.Ram s c = changed s c part.Ram
 recorded part.Rom s c = changed s c part.Rom
 recorded part.Colour s c = changed s c part.Colour
-recorded part.Steps s c = done s c
+recorded part.Steps s c = stepRead s c
 
 -- no part is begun, and the first count stands at 0
 unfoldable pub startOf : Cursor

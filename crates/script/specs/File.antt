@@ -4,6 +4,7 @@ use mathlib.Core.Bool.{cond}
 use mathlib.Core.List.{List, [], _∷_}
 use lib.Dec.{leb, ltb}
 use lib.ListN.{length, getD, drop}
+use Rattle.laws.specs.Bytes.{word}
 use Rattle.script.specs.declared.Read.{Read}
 use Rattle.script.specs.declared.Read.the-variants as read
 use Rattle.script.specs.declared.Count.{Count}
@@ -14,7 +15,7 @@ use Rattle.script.specs.declared.Part.{Part}
 use Rattle.script.specs.declared.Part.the-variants as part
 use Rattle.script.specs.declared.Item.{Item}
 use Rattle.script.specs.declared.Item.the-variants as item
-use Rattle.script.specs.Step.{wordOf, stepOf}
+use Rattle.script.specs.Step.{stepOf}
 
 -- ---- one record
 
@@ -26,16 +27,16 @@ sizeOf part.Rom = 4096
 sizeOf part.Colour = 1024
 sizeOf part.Steps = 0
 
--- 01, Run file; corners 32: a count is 8 above its limit as soon as its two bytes are there
+-- 01, Run file, corner 32: a count is 8 above its limit as soon as its two bytes are there
 unfoldable pub countOf : ℕ → List ℕ → Count
 countOf most s =
-    let n = wordOf (getD s 0 0) (getD s 1 0) in
+    let n = word (getD s 0 0) (getD s 1 0) in
     cond (ltb (length s) 2) (count.Refused 7) (cond (ltb most n) (count.Refused 8) (count.Of n))
 
--- 01, Run file; corners 32: an address is judged once its record is there; past its memory it is 8
+-- 01, Run file, corner 32: an address is judged once its record is there; past its memory it is 8
 unfoldable pub changeOf : ℕ → List ℕ → Change
 changeOf size s =
-    let address = wordOf (getD s 0 0) (getD s 1 0) in
+    let address = word (getD s 0 0) (getD s 1 0) in
     cond (ltb (length s) 3) (change.Refused 7)
     (cond (leb size address) (change.Refused 8) (change.Set address (getD s 2 0)))
 

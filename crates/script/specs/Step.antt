@@ -1,29 +1,26 @@
 -- A step of the run file: five bytes, a kind and four more.
-use Prim.Native.Nat.{ℕ, _+_, _*_, _/_, _%_}
+use Prim.Native.Nat.{ℕ}
 use mathlib.Core.Bool.{Bool, true, _&&_, cond}
 use mathlib.Core.List.{List, [], _∷_}
 use lib.Dec.{eqb, leb, ltb}
 use lib.ListN.{length, getD}
+use Rattle.laws.specs.Bytes.{lowByte, highByte, word}
 use Rattle.script.specs.declared.Step.{Step}
 use Rattle.script.specs.declared.Step.the-variants.{Tick, Write, Expand, Controls, Late, Borders, Display, Bank}
 use Rattle.script.specs.declared.Read.{Read}
 use Rattle.script.specs.declared.Read.the-variants.{Got, Refused}
 
--- 01, Run file: two bytes, low byte first
-abbrev pub wordOf : ℕ → ℕ → ℕ
-wordOf low high = low + high * 256
-
 -- 01, Numbers: 8 for a field that is not allowed
 unfoldable pub allowedIf : Bool → Step → Read
 allowedIf fine step = cond fine (Got step) (Refused 8)
 
--- 01, Run file; corners 32: the kinds with their fields. Unused bytes are 0; a kind above 7 is not allowed
-unfoldable pub decoded : ℕ → ℕ → ℕ → ℕ → ℕ → Read
-decoded kind a b c d =
+-- 01, Run file, corner 32: the kinds with their fields. Unused bytes are 0; a kind above 7 is not allowed
+unfoldable pub stepDecoded : ℕ → ℕ → ℕ → ℕ → ℕ → Read
+stepDecoded kind a b c d =
     cond (eqb kind 0) (allowedIf (eqb a 0 && eqb b 0 && eqb c 0 && eqb d 0) Tick)
     (cond (eqb kind 1) (allowedIf (eqb c 0 && eqb d 0) (Write a b))
     (cond (eqb kind 2) (allowedIf (eqb b 0 && eqb c 0 && eqb d 0) (Expand a))
-    (cond (eqb kind 3) (allowedIf (leb (wordOf c d) 511) (Controls a b (wordOf c d)))
+    (cond (eqb kind 3) (allowedIf (leb (word c d) 511) (Controls a b (word c d)))
     (cond (eqb kind 4) (allowedIf (eqb b 0 && eqb c 0 && eqb d 0) (Late a))
     (cond (eqb kind 5) (allowedIf (eqb a 0 && eqb b 0 && eqb c 0 && eqb d 0) Borders)
     (cond (eqb kind 6) (allowedIf (leb a 1 && leb b 1 && leb c 1 && leb d 1) (Display (eqb a 1) (eqb b 1) (eqb c 1) (eqb d 1)))
@@ -34,7 +31,7 @@ decoded kind a b c d =
 unfoldable pub stepOf : List ℕ → Read
 stepOf s =
     cond (ltb (length s) 5) (Refused 7)
-    (decoded (getD s 0 0) (getD s 1 0) (getD s 2 0) (getD s 3 0) (getD s 4 0))
+    (stepDecoded (getD s 0 0) (getD s 1 0) (getD s 2 0) (getD s 3 0) (getD s 4 0))
 
 -- 01, Run file: 0 is Idle, Stable, off, clear
 abbrev pub byteOf : Bool → ℕ
@@ -45,7 +42,7 @@ unfoldable pub bytesOf : Step → List ℕ
 bytesOf Tick = 0 ∷ 0 ∷ 0 ∷ 0 ∷ 0 ∷ []
 bytesOf (Write address value) = 1 ∷ address ∷ value ∷ 0 ∷ 0 ∷ []
 bytesOf (Expand value) = 2 ∷ value ∷ 0 ∷ 0 ∷ 0 ∷ []
-bytesOf (Controls ctrl1 ctrl2 compare) = 3 ∷ ctrl1 ∷ ctrl2 ∷ compare % 256 ∷ compare / 256 ∷ []
+bytesOf (Controls ctrl1 ctrl2 compare) = 3 ∷ ctrl1 ∷ ctrl2 ∷ lowByte compare ∷ highByte compare ∷ []
 bytesOf (Late value) = 4 ∷ value ∷ 0 ∷ 0 ∷ 0 ∷ []
 bytesOf Borders = 5 ∷ 0 ∷ 0 ∷ 0 ∷ 0 ∷ []
 bytesOf (Display shown pending access mode) = 6 ∷ byteOf shown ∷ byteOf pending ∷ byteOf access ∷ byteOf mode ∷ []

@@ -3,10 +3,11 @@ ghost use mathlib.Core.Path.{_≡_};
 ghost use mathlib.Core.Bool.{Bool};
 ghost use Prim.Native.Nat.{_-_, _<_};
 ghost use lib.ListN.{length, drop};
-ghost use Rattle.script.specs.Step.{wordOf, allowedIf, decoded, stepOf, byteOf, bytesOf};
+ghost use Rattle.laws.specs.Bytes.{word};
+ghost use Rattle.script.specs.Step.{allowedIf, stepDecoded, stepOf, byteOf, bytesOf};
 ghost use Rattle.script.specs.File.{sizeOf, countOf, changeOf, endOf};
-ghost use Rattle.script.specs.Cursor.{changesBegun, stepsBegun, changed, done, begun, recorded, startOf, nextOf};
-ghost use Rattle.script.specs.Block.{blockSteps, blockLen, blockOf};
+ghost use Rattle.script.specs.Cursor.{changesBegun, stepsBegun, changed, stepRead, begun, recorded, startOf, nextOf};
+ghost use Rattle.script.specs.Block.{blockSteps, blockLen, blockFrom};
 
 // A step of the run, with its fields as 01 lists them.
 pub enum Step {
@@ -74,7 +75,7 @@ pub struct Found {
 
 // Two bytes, low byte first.
 fn word(low: u8, high: u8) -> u16
-    ensures { λ r. ⌜ r ≡ wordOf low high ⌝ }
+    ensures { λ r. ⌜ r ≡ word low high ⌝ }
 {
     laws::wide(low) + laws::wide(high) * 256
 }
@@ -100,7 +101,7 @@ fn allowed_if(fine: bool, step: Step) -> Read
 
 // The five bytes of a step, judged by the kind.
 fn decode(kind: u8, a: u8, b: u8, c: u8, d: u8) -> Read
-    ensures { λ r. ⌜ r ≡ decoded kind a b c d ⌝ }
+    ensures { λ r. ⌜ r ≡ stepDecoded kind a b c d ⌝ }
 {
     match kind {
         0 => allowed_if((a == 0) & (b == 0) & (c == 0) & (d == 0), Step::Tick),
@@ -304,7 +305,7 @@ fn change_in(s: &[u8], here: Cursor, memory: Part) -> Found
 // A step.
 fn step_in(s: &[u8], here: Cursor) -> Found
     requires { ⌜ 0 < here .left ⌝ }
-    ensures { λ r. ⌜ r ≡ done (now (s .entry)) here ⌝ }
+    ensures { λ r. ⌜ r ≡ stepRead (now (s .entry)) here ⌝ }
 {
     match step_of(s, here.at) {
         Read::Got(step) => Found {
@@ -381,7 +382,7 @@ pub fn block_len(left: u16) -> usize
 
 // The block at a place; where the file ends early, what is there.
 pub fn block<'a>(s: &'a [u8], at: usize, left: u16) -> &'a [u8]
-    ensures { λ r. ⌜ now r ≡ blockOf left (drop at (now (s .entry))) ⌝ }
+    ensures { λ r. ⌜ now r ≡ blockFrom left (drop at (now (s .entry))) ⌝ }
 {
     let n = block_len(left);
     if s.len() <= at {

@@ -1,29 +1,30 @@
 -- What an accepted state's tests say of its numbers. Assumes nothing.
 use mathlib.Core.Path.{_≡_, refl, sym, _∙_}
-use mathlib.Core.Bool.{Bool, true, false, _&&_, false≢true}
+use mathlib.Core.Bool.{Bool, true, false, false≢true}
 use lib.IntN.{ℤ, pos, negsuc}
 use borrow.Author.Tests.{eqb-true, leb-true, ltb-true, eq-eqb, le-leb, lt-ltb}
-use Rattle.laws.specs.Clock.{inRange, canTick}
+use Rattle.laws.specs.Clock.{lastClock, lastTickable, inRange, canTick}
+use Rattle.laws.proofs.Choice.{and-false}
 use Rattle.arbitration.specs.Bus.{Counted}
 use Rattle.access.specs.declared.Pending.{Pending}
 use Rattle.access.specs.declared.Pending.the-variants.{Nothing, At}
-use Rattle.access.proofs.Laws.{Pends}
+use Rattle.access.specs.Matrix.{Pends}
 use Rattle.sequencer.specs.declared.Chip.{Chip}
 use Rattle.sequencer.specs.Accept.{aecFine, clockFine, tickable, placeFine, accepted}
 
 pub clock-fine-range : (z : ℤ) → clockFine z ≡ true → inRange z
 unfolding clockFine
-clock-fine-range (pos n) e = leb-true n 4611686018427387904 e
+clock-fine-range (pos n) e = leb-true n lastClock e
 clock-fine-range (negsuc n) e = absurd (false≢true e)
 
 pub range-clock-fine : (z : ℤ) → inRange z → clockFine z ≡ true
 unfolding clockFine
-range-clock-fine (pos n) h = le-leb n 4611686018427387904 h
+range-clock-fine (pos n) h = le-leb n lastClock h
 range-clock-fine (negsuc n) h = absurd h
 
 pub tickable-can : (z : ℤ) → clockFine z ≡ true → tickable z ≡ true → canTick z
 unfolding clockFine tickable
-tickable-can (pos n) e t = leb-true n 4611686018427387902 t
+tickable-can (pos n) e t = leb-true n lastTickable t
 tickable-can (negsuc n) e t = absurd (false≢true e)
 
 pub aec-fine-counted : (z : ℤ) → aecFine z ≡ true → Counted z
@@ -50,10 +51,6 @@ pends-place-fine (At p) h = lt-ltb p 40 h
 pub unless : (t b : Bool) → (t ≡ false → b ≡ false) → b ≡ true → t ≡ true
 unless true b f e = refl
 unless false b f e = absurd (false≢true (sym (f refl) ∙ e))
-
-pub and-false : (b : Bool) → (b && false) ≡ false
-and-false true = refl
-and-false false = refl
 
 module _ (c : Chip) (e : accepted c ≡ true) where
   pub accepted-forced : clockFine (c .picture .pen .forced) ≡ true

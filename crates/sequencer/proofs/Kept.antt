@@ -7,7 +7,7 @@ use borrow.Author.Tests.{leb-true, le-leb, ltb-false}
 use lib.Dec.{leb, ltb}
 use lib.IntN.{ℤ}
 use Rattle.laws.specs.Clock.{inRange}
-use Rattle.laws.proofs.Choice.{either, by-test}
+use Rattle.laws.proofs.Choice.{either, by-test, and-false}
 use Rattle.schedule.specs.Kind.{lastCycle, lastLine}
 use Rattle.registers.specs.declared.Registers.{Registers}
 use Rattle.registers.proofs.Kept.{compare-kept}
@@ -24,7 +24,7 @@ use Rattle.sequencer.specs.Chip.{Host, World, worldOf, chipOf, timed, po
 use Rattle.sequencer.specs.Accept.{aecFine, clockFine, tickable, accepted}
 use Rattle.sequencer.specs.Tick.{tickWorld, tickOf}
 use Rattle.sequencer.specs.Calls.{registerWritten, expandAt, comparesBy, controlsPlaced, displayPlaced, lateAt, lateTaken}
-use Rattle.sequencer.proofs.Accepted.{clock-fine-range, range-clock-fine, tickable-can, aec-fine-counted, counted-aec-fine, place-fine-pends, pends-place-fine, unless, and-false, accepted-forced, accepted-clock, accepted-place}
+use Rattle.sequencer.proofs.Accepted.{clock-fine-range, range-clock-fine, tickable-can, aec-fine-counted, counted-aec-fine, place-fine-pends, pends-place-fine, unless, accepted-forced, accepted-clock, accepted-place}
 
 -- what the acceptance says, as facts
 pub record Fine (c : Chip) : Type 0 where
@@ -38,8 +38,8 @@ accepted-fine c e =
     let s = c .side in
     record {
       side = record {
-        low = at-most 1 (s .beam .cycle) (λ h. simp h);
-        high = at-most (s .beam .cycle) lastCycle (λ h. simp (h, and-false));
+        first = at-most 1 (s .beam .cycle) (λ h. simp h);
+        last = at-most (s .beam .cycle) lastCycle (λ h. simp (h, and-false));
         raster = at-most (s .beam .raster) lastLine (λ h. simp (h, and-false));
         aec = aec-fine-counted (s .bus .aec) (holds (aecFine (s .bus .aec)) (λ h. simp (h, and-false)));
         vc = at-most (s .rows .vc) 1023 (λ h. simp (h, and-false));
@@ -65,8 +65,8 @@ unfolding accepted
 fine-accepted c f =
     let s = f .side in
     rw (
-      le-leb _ _ (s .low),
-      le-leb _ _ (s .high),
+      le-leb _ _ (s .first),
+      le-leb _ _ (s .last),
       le-leb _ _ (s .raster),
       le-leb _ _ (f .compare),
       counted-aec-fine _ (s .aec),

@@ -7,12 +7,13 @@ use lib.Dec.{leb}
 use lib.IntN.{ℤ, pos, negsuc}
 use lib.Signed.{leZ}
 use borrow.Author.Tests.{le-leb, lt-leb, ne-eqb, not-true, not-false}
+use Rattle.laws.specs.Clock.{lastClock, lastTickable}
 use Rattle.sprites.specs.Fine.{fineTest}
 use Rattle.side.specs.Fine.{vmliLimit}
 use Rattle.access.specs.declared.Pending.the-variants.{Nothing, At}
-use Rattle.access.proofs.Laws.{Pends}
+use Rattle.access.specs.Matrix.{Pends}
 use Rattle.sequencer.specs.declared.Chip.{Chip}
-use Rattle.sequencer.specs.Set.{side≔, rows≔, display≔, picture≔, pen≔, changing≔}
+use Rattle.sequencer.specs.Set.{side≔, rows≔, states≔, picture≔, pen≔, changing≔}
 use Rattle.sequencer.specs.Accept.{aecFine, clockFine, tickable, placeFine, accepted}
 use Rattle.sequencer.specs.Tick.{answer}
 use Rattle.sequencer.specs.Calls.{displayPlaced, lateAt, lateTaken}
@@ -24,12 +25,12 @@ is-counted (pos n) = refl
 is-counted (negsuc zero) = refl
 is-counted (negsuc (suc n)) = simp (lt-leb (suc n) 0 (omega arith), ne-eqb (suc n) 0 (λ (e : suc n ≡ 0). omega arith))
 
-pub is-clock : (z : ℤ) → (leZ (pos 0) z && leZ z (pos 4611686018427387904)) ≡ clockFine z
+pub is-clock : (z : ℤ) → (leZ (pos 0) z && leZ z (pos lastClock)) ≡ clockFine z
 unfolding clockFine
 is-clock (pos n) = simp (le-leb 0 n (omega arith))
 is-clock (negsuc n) = refl
 
-pub is-tickable : (z : ℤ) → leZ z (pos 4611686018427387902) ≡ tickable z
+pub is-tickable : (z : ℤ) → leZ z (pos lastTickable) ≡ tickable z
 unfolding tickable
 is-tickable (pos n) = refl
 is-tickable (negsuc n) = refl
@@ -55,7 +56,7 @@ module _ (c : Chip) where
     not-placed t = simp (sym e ∙ not-true fine t)
 
     pub placed : {forced : ℤ} → not fine ≡ false → forced ≡ z
-        → answer 0 (side≔ (rows≔ (display≔ display transition access (c .side .rows)) (c .side)) (picture≔ (pen≔ (changing≔ changing forced (c .picture .pen)) (c .picture)) c))
+        → answer 0 (side≔ (rows≔ (states≔ display transition access (c .side .rows)) (c .side)) (picture≔ (pen≔ (changing≔ changing forced (c .picture .pen)) (c .picture)) c))
         ≡ displayPlaced c display transition access changing z
     unfolding displayPlaced
     placed t forced = rw forced (simp (sym e ∙ not-false fine t))

@@ -1,15 +1,16 @@
 -- A run of ticks: what it holds from tick to tick, and how it ends. Assumes nothing.
 use Prim.Native.Nat.{ℕ, zero, suc, _+_, _-_, _<_, _≤_}
 use mathlib.Core.Path.{_≡_, refl, sym, _∙_, ap}
-use mathlib.Core.Bool.{Bool, true, false, _&&_, cond}
+use mathlib.Core.Bool.{Bool, true, false}
 use native.Mathlib.Omega.{arith}
 use native.Mathlib.Numerals.{add-one}
 use native.Mathlib.Nat.{zero-add, suc-add}
-use lib.Dec.{eqb, ltb}
+use lib.Dec.{eqb}
 use lib.ListN.{length}
 use borrow.Author.Tests.{eqb-true, ne-eqb}
-use Rattle.laws.proofs.Choice.{left, right}
-use Rattle.memory.specs.Memory.{Lent}
+use Rattle.laws.proofs.Choice.{passed}
+use Rattle.memory.specs.Memory.{Lent, blockRefusal}
+use Rattle.memory.proofs.Laws.{unrefused-lent}
 use Rattle.registers.specs.declared.Registers.{Registers}
 use Rattle.sequencer.specs.declared.Chip.{Chip}
 use Rattle.sequencer.specs.declared.Answer.{Answer}
@@ -20,33 +21,16 @@ use Rattle.sequencer.proofs.Accepted.{accepted-clock, accepted-forced, 
 use Rattle.sequencer.proofs.Kept.{world-kept}
 
 -- nothing lent is refused: the three lengths are right
-all-three : (a b : Bool) → _≡_ {A = ℕ} (cond a (cond b 2 0) 1) 0 → a ≡ true
-all-three true b e = refl
-all-three false b e = absurd (omega arith)
-
-lengths : (h : Host) → lentRefusal h ≡ 0 → (eqb (length (h .ram)) 16384 && eqb (length (h .rom)) 4096 && eqb (length (h .colour)) 1024) ≡ true
-unfolding lentRefusal
-lengths h e = all-three _ (ltb 3 (h .bank)) e
-
 module _ (h : Host) (e : lentRefusal h ≡ 0) where
-  ram : Bool
-  ram = eqb (length (h .ram)) 16384
-
-  rom : Bool
-  rom = eqb (length (h .rom)) 4096
-
-  last : Bool
-  last = eqb (length (h .colour)) 1024
+  both : (eqb (length (h .colour)) 1024 ≡ true) × (blockRefusal (h .ram) (h .rom) (h .bank) ≡ 0)
+  unfolding lentRefusal
+  both = passed (eqb (length (h .colour)) 1024) (blockRefusal (h .ram) (h .rom) (h .bank)) e
 
   lent : Lent (h .ram) (h .rom)
-  unfolding ram rom last
-  lent =
-      let t = left (ram && rom) last (lengths h e) in
-      record { inRam = eqb-true (length (h .ram)) 16384 (left ram rom t); inRom = eqb-true (length (h .rom)) 4096 (right ram rom t) }
+  lent = unrefused-lent (h .ram) (h .rom) (h .bank) (both .1)
 
   colour : length (h .colour) ≡ 1024
-  unfolding ram rom last
-  colour = eqb-true (length (h .colour)) 1024 (right (ram && rom) last (lengths h e))
+  colour = eqb-true (length (h .colour)) 1024 (both .0)
 
 pub ready : {h : Host} {g : Registers} {w : World} → Held h g w → tickable (w .side .bus .clock) ≡ true → Ready h w
 ready {h} {g} {w} held t = record {

@@ -6,6 +6,7 @@ use mathlib.Core.List.{List}
 use lib.Dec.{ltb}
 use lib.IntN.{ℤ}
 use lib.ListN.{length}
+use Rattle.memory.specs.Memory.{blockRefusal}
 use Rattle.registers.specs.declared.Registers.{Registers}
 use Rattle.registers.specs.declared.Irq.{Irq}
 use Rattle.registers.specs.Control.{DEN, RSEL, YSCROLL, CSEL}
@@ -20,7 +21,7 @@ use Rattle.side.specs.declared.Side.{Side}
 use Rattle.side.specs.Turn.{Controls, turned}
 use Rattle.sequencer.specs.declared.Chip.{Chip}
 use Rattle.sequencer.specs.declared.Answer.{Answer}
-use Rattle.sequencer.specs.Set.{irq≔, border≔, sprites≔, rows≔, display≔, pending≔}
+use Rattle.sequencer.specs.Set.{irq≔, border≔, sprites≔, rows≔, states≔, pending≔}
 use Rattle.sequencer.specs.Chip.{Host, host, timed}
 use Rattle.sequencer.specs.Accept.{accepted, tickable, clockFine}
 use Rattle.sequencer.specs.Tick.{tickWorld, tickOf, lentRefusal, tickRefusal, answer, ticked}
@@ -67,13 +68,13 @@ as-one g k s = simp (s .den, s .rsel, s .yscroll, s .csel, s .compare, s .my, s 
 -- memory of the legal lengths and a bank 0..3 are not refused
 pub lent-legal : (ram rom colour : List ℕ) (bank : ℕ) → length ram ≡ 16384 → length rom ≡ 4096 → length colour ≡ 1024 → ltb 3 bank ≡ false
     → lentRefusal (host ram rom colour bank) ≡ 0
-unfolding lentRefusal
+unfolding lentRefusal blockRefusal
 lent-legal ram rom colour bank r s t b = simp (r, s, t, b)
 
 -- a bank above 3 is
 pub lent-bank : (ram rom colour : List ℕ) (bank : ℕ) → length ram ≡ 16384 → length rom ≡ 4096 → length colour ≡ 1024 → ltb 3 bank ≡ true
     → lentRefusal (host ram rom colour bank) ≡ 2
-unfolding lentRefusal
+unfolding lentRefusal blockRefusal
 lent-bank ram rom colour bank r s t b = simp (r, s, t, b)
 
 -- a tick refused for its bank, and for its state
@@ -177,7 +178,7 @@ module _ {a b : Chip} (e : Level a b) where
   unfolding displayPlaced
   display-level display transition access m n s t f g =
       rw (f, g)
-      (record { refused = refl; chip = record { side = ap (λ (s : Side). rows≔ (display≔ display transition access (s .rows)) s) (e .side); registers = e .registers } })
+      (record { refused = refl; chip = record { side = ap (λ (s : Side). rows≔ (states≔ display transition access (s .rows)) s) (e .side); registers = e .registers } })
 
   late-at : (v w : ℕ) (p : Pending) → Level (lateAt a v p) (lateAt b w p)
   late-at v w Nothing = e

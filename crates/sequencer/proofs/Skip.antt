@@ -43,10 +43,6 @@ pub record Able (g : Registers) (w : World) : Type 0 where
   pub changing : w .pen .changing ≡ false
   pub merges : (w .side .border .disabled || not (w .side .rows .display) || not (eqb (w .side .rows .rc) 0)) ≡ true
 
-off : (b : Bool) → not b ≡ true → b ≡ false
-off true e = sym e
-off false e = refl
-
 pub able : (g : Registers) (c : Core) (w : World) → w .side ≡ c .side → w .pen ≡ c .pen
     → skippableBy g c ≡ true → 18 ≤ w .side .beam .cycle → w .side .beam .cycle ≤ 53 → Able g w
 unfolding skippableBy timed
@@ -56,7 +52,7 @@ able g c w s p e l h =
     let d = w .side .border .disabled || not (w .side .rows .display) || not (eqb (w .side .rows .rc) 0) in
     let e' : (a && b && d) ≡ true = rw (s, p) e in
     let two = left (a && b) d e' in
-    record { counts = counts (YSCROLL (g .ctrl1)) (w .side) (left a b two) l h; changing = off (w .pen .changing) (right a b two); merges = right (a && b) d e' }
+    record { counts = counts (YSCROLL (g .ctrl1)) (w .side) (left a b two) l h; changing = not-true (w .pen .changing) (right a b two); merges = right (a && b) d e' }
 
 module _ (h : Host) (g : Registers) where
   -- what the tick leaves, from what the timing side's step gave
@@ -141,7 +137,7 @@ module _ (h : Host) (g : Registers) where
   later-none {w} held =
       let f = accepted-fine (chipOf g w) (held .fine) .side in
       ap (λ (s : Side). record { side = s; pen = w .pen; matrix = w .matrix; pointers = w .pointers; bytes = w .bytes; words = w .words })
-      (leap-none (w .side) (f .clock) (omega (arith, f .vc)) (omega (arith, f .vmli, limit-small (w .side .beam .cycle) (f .high))))
+      (leap-none (w .side) (f .clock) (omega (arith, f .vc)) (omega (arith, f .vmli, limit-small (w .side .beam .cycle) (f .last))))
 
 -- how many are counted before the one that is done: fewer than are left, and only where they may be
 module _ (able' : Bool) (cycle left' : ℕ) where

@@ -9,7 +9,7 @@ use lib.IntN.{ℤ, pos, negsuc}
 use lib.Signed.{ltZ}
 use lib.ListN.{length}
 use borrow.Author.Tests.{le-leb, ltb-false}
-use Rattle.laws.specs.Clock.{canTick}
+use Rattle.laws.specs.Clock.{lastTickable, canTick}
 use Rattle.registers.specs.declared.Registers.{Registers}
 use Rattle.side.proofs.Kept.{side-clock}
 use Rattle.arbitration.specs.Bus.{clockOn}
@@ -24,7 +24,7 @@ use Rattle.sequencer.proofs.Runs.{Going, none, begun, on}
 -- room for one more tick, and what is left after it
 pub room-now : (k : ℕ) (z : ℤ) → 0 < k → Roomy k z → tickable z ≡ true
 unfolding tickable
-room-now k (pos n) h r = le-leb n 4611686018427387902 (omega arith)
+room-now k (pos n) h r = le-leb n lastTickable (omega arith)
 room-now k (negsuc n) h r = absurd r
 
 room-next : (k : ℕ) (z : ℤ) → 0 < k → Roomy k z → Roomy (k - 1) (clockOn z)

@@ -2,6 +2,7 @@
 use mathlib.Core.Bool.{Bool, true, false, _&&_}
 use lib.IntN.{ℤ, pos, negsuc}
 use lib.Dec.{eqb, leb, ltb}
+use Rattle.laws.specs.Clock.{lastClock, lastTickable}
 use Rattle.schedule.specs.Kind.{lastCycle, lastLine}
 use Rattle.sprites.specs.Fine.{fineTest}
 use Rattle.side.specs.Fine.{vmliLimit}
@@ -14,17 +15,17 @@ unfoldable pub aecFine : ℤ → Bool
 aecFine (pos n) = leb n 3
 aecFine (negsuc n) = eqb n 0
 
--- a clock 0..4,611,686,018,427,387,904
+-- `inRange` as a test
 unfoldable pub clockFine : ℤ → Bool
-clockFine (pos n) = leb n 4611686018427387904
+clockFine (pos n) = leb n lastClock
 clockFine (negsuc n) = false
 
--- 01, Numbers: 4 is given above this
+-- 01, Numbers: 4 is given where this fails, and only above the limit: below zero it is 3, as the state is not accepted
 unfoldable pub tickable : ℤ → Bool
-tickable (pos n) = leb n 4611686018427387902
+tickable (pos n) = leb n lastTickable
 tickable (negsuc n) = true
 
--- pending matrix place none or 0..39
+-- `Pends` as a test
 unfoldable pub placeFine : Pending → Bool
 placeFine Nothing = true
 placeFine (At p) = ltb p 40

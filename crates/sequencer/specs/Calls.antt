@@ -20,7 +20,7 @@ use Rattle.access.specs.declared.Pending.the-variants.{Nothing, At}
 use Rattle.access.specs.Matrix.{lateWord}
 use Rattle.sequencer.specs.declared.Chip.{Chip}
 use Rattle.sequencer.specs.declared.Answer.{Answer}
-use Rattle.sequencer.specs.Set.{regs≔, side≔, picture≔, irq≔, border≔, sprites≔, rows≔, pending≔, display≔, matrix≔, pen≔, changing≔}
+use Rattle.sequencer.specs.Set.{regs≔, side≔, picture≔, irq≔, border≔, sprites≔, rows≔, pending≔, states≔, matrix≔, pen≔, changing≔}
 use Rattle.sequencer.specs.Accept.{accepted, clockFine}
 use Rattle.sequencer.specs.Tick.{answer}
 
@@ -53,7 +53,7 @@ unfoldable pub displayPlaced : Chip → Bool → Bool → Bool → Bool → ℤ 
 displayPlaced c display transition access changing forced =
     cond (clockFine forced)
     (answer 0
-    (side≔ (rows≔ (display≔ display transition access (c .side .rows)) (c .side))
+    (side≔ (rows≔ (states≔ display transition access (c .side .rows)) (c .side))
     (picture≔ (pen≔ (changing≔ changing forced (c .picture .pen)) (c .picture)) c)))
     (answer 6 c)
 

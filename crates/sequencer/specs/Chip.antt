@@ -1,6 +1,7 @@
 -- The whole chip: the register file, the timing side and the picture side.
-use Prim.Native.Nat.{ℕ, zero, suc}
-use mathlib.Core.List.{List, [], _∷_}
+use Prim.Native.Nat.{ℕ}
+use mathlib.Core.List.{List}
+use Rattle.laws.specs.Lists.{zeros}
 use Rattle.registers.specs.declared.Registers.{Registers}
 use Rattle.registers.specs.Registers as File
 use Rattle.registers.specs.Control.{DEN, RSEL, YSCROLL, CSEL}
@@ -50,10 +51,6 @@ chipOf regs w =
 unfoldable pub timed : Registers → Controls
 timed g =
     controls (DEN (g .ctrl1)) (RSEL (g .ctrl1)) (YSCROLL (g .ctrl1)) (CSEL (g .ctrl2)) (g .compare) (g .my) (g .enable) (g .yexp)
-
-abbrev pub zeros : ℕ → List ℕ
-zeros zero = []
-zeros (suc n) = 0 ∷ zeros n
 
 -- 01, power-up: the parts' own values
 unfoldable pub powered : Chip

@@ -45,8 +45,8 @@ abbrev pub matrix≔ : List ℕ → Picture → Picture
 matrix≔ v p = record { pen = p .pen; matrix = v; pointers = p .pointers; bytes = p .bytes; words = p .words }
 
 -- the three states of the display logic
-abbrev pub display≔ : Bool → Bool → Bool → Rows → Rows
-display≔ display transition access r = record { vc = r .vc; vcbase = r .vcbase; rc = r .rc; vmli = r .vmli; display = display; transition = transition; access = access }
+abbrev pub states≔ : Bool → Bool → Bool → Rows → Rows
+states≔ display transition access r = record { vc = r .vc; vcbase = r .vcbase; rc = r .rc; vmli = r .vmli; display = display; transition = transition; access = access }
 
 -- the mode-changing flag and the forced clock
 abbrev pub changing≔ : Bool → ℤ → Pen → Pen

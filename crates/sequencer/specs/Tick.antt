@@ -1,12 +1,12 @@
 -- The tick: its refusals, its definition, and a run of ticks.
 use Prim.Native.Nat.{ℕ, zero, suc}
 use mathlib.Core.Path.{_≡_}
-use mathlib.Core.Bool.{Bool, true, _&&_, cond}
+use mathlib.Core.Bool.{Bool, true, cond}
 use mathlib.Core.List.{List}
-use lib.Dec.{eqb, ltb}
+use lib.Dec.{eqb}
 use lib.ListN.{length}
 use Rattle.laws.specs.Clock.{inRange, canTick}
-use Rattle.memory.specs.Memory.{Lent}
+use Rattle.memory.specs.Memory.{Lent, blockRefusal}
 use Rattle.registers.specs.declared.Registers.{Registers}
 use Rattle.registers.specs.Control.{modeNumber}
 use Rattle.side.specs.Turn.{turned}
@@ -47,10 +47,9 @@ tickWorld h g w =
 abbrev pub tickOf : Host → Chip → Chip
 tickOf h c = chipOf (c .regs) (tickWorld h (c .regs) (worldOf c))
 
--- 01, Numbers: 1 where a lent memory has another length, 2 where the bank is above 3
+-- 01, Numbers: as of a block, and 1 where the colour RAM has another length
 unfoldable pub lentRefusal : Host → ℕ
-lentRefusal h =
-    cond (eqb (length (h .ram)) 16384 && eqb (length (h .rom)) 4096 && eqb (length (h .colour)) 1024) (cond (ltb 3 (h .bank)) 2 0) 1
+lentRefusal h = cond (eqb (length (h .colour)) 1024) (blockRefusal (h .ram) (h .rom) (h .bank)) 1
 
 -- 01, Numbers: then 3 where the state is not accepted, 4 where the clock is above its limit; in number order
 unfoldable pub tickRefusal : Host → Chip → ℕ

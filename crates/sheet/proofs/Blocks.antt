@@ -18,7 +18,7 @@ use Rattle.run.specs.Run.{doneOf}
 use Rattle.line.specs.Text.{Written}
 use Rattle.sheet.specs.declared.Run.{Run}
 use Rattle.sheet.specs.Sheet.{Store, hostOf, begunOf, cursorAt, runBy, saidDoing, runDoing, saidAt, runAt, storeAt, saidIn, runIn, storeIn}
-use Rattle.sheet.specs.Fill.{Sheet, sheet, turned, goes, turns, emptied, Filled, ahead}
+use Rattle.sheet.specs.Fill.{Sheet, sheet, oneTurn, goes, turns, emptied, Filled, ahead}
 use Rattle.sheet.specs.Chart.{told, chartOf}
 use Rattle.sheet.proofs.Loop.{never, is-going}
 
@@ -153,8 +153,8 @@ module _ (s : List ℕ) (m : Store) (r : Run) (going : r .going ≡ true) where
 abbrev all : List ℕ → Sheet → List ℕ
 all s x = x .text ++ toCome s (x .store) (x .run)
 
-turned-all : (s : List ℕ) (x : Sheet) (go : Bool) → goes (x .run) ≡ go → all s (cond go (turned s x) x) ≡ all s x
-unfolding turned
+turned-all : (s : List ℕ) (x : Sheet) (go : Bool) → goes (x .run) ≡ go → all s (cond go (oneTurn s x) x) ≡ all s x
+unfolding oneTurn
 turned-all s x false e = refl
 turned-all s x true e =
     joined (x .text) (saidIn s (x .store) (x .run)) _

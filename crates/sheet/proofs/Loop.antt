@@ -11,7 +11,7 @@ use Rattle.line.specs.Text.{Written}
 use Rattle.line.proofs.Join.{on}
 use Rattle.sheet.specs.declared.Run.{Run}
 use Rattle.sheet.specs.Sheet.{Store, placed, saidIn, runIn, storeIn}
-use Rattle.sheet.specs.Fill.{Sheet, sheet, turned, goes, turns, emptied, Filled, ahead}
+use Rattle.sheet.specs.Fill.{Sheet, sheet, oneTurn, goes, turns, emptied, Filled, ahead}
 use Rattle.sheet.proofs.Glue.{nothing}
 use Rattle.sheet.proofs.Less.{turn-less}
 
@@ -51,13 +51,13 @@ module _ (s : List ℕ) (m : Store) (start : Run) (out : List ℕ) where
     abbrev words : List ℕ
     words = turns n s first .text ++ saidIn s left r
 
-    one-on : turns (suc n) s first ≡ turned s (sheet r left (turns n s first .text))
+    one-on : turns (suc n) s first ≡ oneTurn s (sheet r left (turns n s first .text))
     unfolding turns
-    one-on = subst (λ y. cond (goes (y .run)) (turned s y) y ≡ turned s (sheet r left (turns n s first .text))) (now .same) (simp on-goes)
+    one-on = subst (λ y. cond (goes (y .run)) (oneTurn s y) y ≡ oneTurn s (sheet r left (turns n s first .text))) (now .same) (simp on-goes)
 
     pub one-more : (next-left : Store) (next : Run) (next-after : List ℕ) → next .at ≤ r .at + 64 → next ≡ runIn s left r
         → Written after (r .at) (saidIn s left r) next-after (next .at) → next-left ≡ storeIn s left r → Going s m start out next-left next next-after
-    unfolding turned
+    unfolding oneTurn
     one-more next-left next next-after w e t f =
         record {
           count = suc n;

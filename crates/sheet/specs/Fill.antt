@@ -18,8 +18,8 @@ pub record Sheet : Type 0 where
 abbrev pub sheet : Run → Store → List ℕ → Sheet
 sheet run m text = record { run = run; store = m; text = text }
 
-unfoldable pub turned : List ℕ → Sheet → Sheet
-turned s x =
+unfoldable pub oneTurn : List ℕ → Sheet → Sheet
+oneTurn s x =
     sheet (runIn s (x .store) (x .run)) (storeIn s (x .store) (x .run)) (x .text ++ saidIn s (x .store) (x .run))
 
 -- the run is not over, and 64 of the block's 65,536 bytes are free
@@ -29,7 +29,7 @@ goes r = r .going && leb (r .at) 65472
 -- n turns, or fewer where it stops before
 unfoldable pub turns : ℕ → List ℕ → Sheet → Sheet
 turns zero s x = x
-turns (suc n) s x = let y = turns n s x in cond (goes (y .run)) (turned s y) y
+turns (suc n) s x = let y = turns n s x in cond (goes (y .run)) (oneTurn s y) y
 
 -- a block begins with no text
 abbrev pub emptied : Run → Run

@@ -34,10 +34,6 @@ pub record Counts (yscroll : ℕ) (s : Side) : Type 0 where
   pub low : 18 ≤ s .beam .cycle
   pub high : s .beam .cycle ≤ 53
 
-off : (b : Bool) → not b ≡ true → b ≡ false
-off true e = sym e
-off false e = refl
-
 pub counts : (yscroll : ℕ) (s : Side) → onlyCounts yscroll s ≡ true → 18 ≤ s .beam .cycle → s .beam .cycle ≤ 53 → Counts yscroll s
 unfolding onlyCounts
 counts yscroll s e l h =
@@ -50,11 +46,11 @@ counts yscroll s e l h =
     let three = left (a && b && c) d four in
     let two = left (a && b) c three in
     record {
-      bad = off (badLine (s .beam .raster) yscroll (s .frame .latch)) (left a b two);
-      balow = off (s .bus .balow) (right a b two);
-      aeclow = off (s .bus .aeclow) (right (a && b) c three);
-      transition = off (s .rows .transition) (right (a && b && c) d four);
-      access = off (s .rows .access) (right (a && b && c && d) f e);
+      bad = not-true (badLine (s .beam .raster) yscroll (s .frame .latch)) (left a b two);
+      balow = not-true (s .bus .balow) (right a b two);
+      aeclow = not-true (s .bus .aeclow) (right (a && b) c three);
+      transition = not-true (s .rows .transition) (right (a && b && c) d four);
+      access = not-true (s .rows .access) (right (a && b && c && d) f e);
       low = l;
       high = h;
     }

@@ -19,7 +19,8 @@ use Rattle.access.specs.Matrix.{pendingAfter}
 use Rattle.side.specs.declared.Frame.{Frame}
 use Rattle.side.specs.declared.Side.{Side}
 use Rattle.side.specs.declared.Turned.{Turned}
-use Rattle.side.specs.Frame.{rasterBegun, frameBegun, frameEnded, raised}
+use Rattle.side.specs.declared.Swept.{Swept}
+use Rattle.side.specs.Frame.{rasterBegun, frameBegun, frameEnded, raised, swept}
 use Rattle.side.specs.Phases.{bordered, phased, slotMoved}
 use Rattle.side.specs.Turn.{Controls, turned}
 use Rattle.side.specs.declared.Rows.{Rows}
@@ -57,20 +58,28 @@ unfolding rowed
 rows-glue cycle bad rising wraps r loads vc vmli rc chosen over access graphics character ends shows based base nextVc nextVmli nextRc =
     rw (← loads, ← vc, ← vmli, ← rc, ← chosen, ← over, ← access, ← graphics, ← character, ← ends, ← shows, ← based, ← base, ← nextVc, ← nextVmli, ← nextRc)
 
-pub turn-glue : (g : Controls) (s : Side) {clk bus : Bus} {cycle line raster k : ℕ} {begins last bad fe ba asked mask after low pointing fetching : Bool} {frame₁ frame : Frame} {irq : Irq} {border : Border} {ph spr : Sprites} {sprite : Sprite} {now : Rowed} {pending : Pending}
+-- what the line and the frame do
+pub sweep-glue : (f : Frame) (i : Irq) (cycle before : ℕ) (den : Bool) (compare : ℕ) {begins last fe : Bool} {line raster : ℕ} {begun frame : Frame} {irq : Irq}
+    → begins ≡ happens lineBegins cycle
+    → last ≡ atLastLine before
+    → line ≡ rasterBegun begins before
+    → begun ≡ frameBegun f begins (begins && last) line den compare
+    → fe ≡ happens frameEnds cycle
+    → raster ≡ pick (fe && begun .ending) 0 line
+    → frame ≡ frameEnded begun (fe && begun .ending)
+    → irq ≡ raised i ((begun .matched && not (f .matched)) || ((fe && begun .ending) && eqb compare 0))
+    → _≡_ {A = Swept} (record { line = line; begun = begun; wraps = fe && begun .ending; raster = raster; frame = frame; irq = irq }) (swept f i cycle before den compare)
+unfolding swept
+sweep-glue f i cycle before den compare begins last line begun fe raster frame irq =
+    rw (← begins, ← last, ← line, ← begun, ← fe, ← raster, ← frame, ← irq)
+
+pub turn-glue : (g : Controls) (s : Side) {clk bus : Bus} {cycle k : ℕ} {bad ba asked mask after low pointing fetching : Bool} {sweep : Swept} {border : Border} {ph spr : Sprites} {sprite : Sprite} {now : Rowed} {pending : Pending}
     → clk ≡ clocked (s .bus)
     → cycle ≡ nextCycle (s .beam .cycle)
-    → begins ≡ happens lineBegins cycle
-    → last ≡ atLastLine (s .beam .raster)
-    → line ≡ rasterBegun begins (s .beam .raster)
-    → frame₁ ≡ frameBegun (s .frame) begins (begins && last) line (g .den) (g .compare)
-    → bad ≡ badLine line (g .yscroll) (frame₁ .latch)
-    → fe ≡ happens frameEnds cycle
-    → raster ≡ pick (fe && frame₁ .ending) 0 line
-    → frame ≡ frameEnded frame₁ (fe && frame₁ .ending)
-    → irq ≡ raised (s .irq) ((frame₁ .matched && not (s .frame .matched)) || ((fe && frame₁ .ending) && eqb (g .compare) 0))
-    → border ≡ bordered cycle raster (g .den) (g .csel) (s .border)
-    → ph ≡ phased cycle raster (g .my) (g .enable) (g .yexp) (s .sprites)
+    → sweep ≡ swept (s .frame) (s .irq) cycle (s .beam .raster) (g .den) (g .compare)
+    → bad ≡ badLine (sweep .line) (g .yscroll) (sweep .begun .latch)
+    → border ≡ bordered cycle (sweep .raster) (g .den) (g .csel) (s .border)
+    → ph ≡ phased cycle (sweep .raster) (g .my) (g .enable) (g .yexp) (s .sprites)
     → ba ≡ baOutput bad cycle
     → asked ≡ requested ba (ph .dma) cycle
     → bus ≡ arbitrated clk asked
@@ -82,19 +91,19 @@ pub turn-glue : (g : Controls) (s : Side) {clk bus : Bus} {cycle line raster k :
     → low ≡ pick after (bus .aeclow) (s .bus .aeclow)
     → pointing ≡ pointerTime cycle
     → fetching ≡ dataTime cycle
-    → now ≡ rowed cycle bad (bad && not (s .beam .bad)) (fe && frame₁ .ending) (s .rows)
+    → now ≡ rowed cycle bad (bad && not (s .beam .bad)) (sweep .wraps) (s .rows)
     → pending ≡ pendingAfter (now .fetches && not (bus .aeclow)) (now .rows .vmli) (s .pending)
     → _≡_ {A = Turned} (record {
       side = record {
-        irq = irq;
-        beam = record { cycle = cycle; raster = raster; den = g .den; rsel = g .rsel; yscroll = g .yscroll; bad = bad; rising = bad && not (s .beam .bad); ba = ba };
-        frame = frame;
+        irq = sweep .irq;
+        beam = record { cycle = cycle; raster = sweep .raster; den = g .den; rsel = g .rsel; yscroll = g .yscroll; bad = bad; rising = bad && not (s .beam .bad); ba = ba };
+        frame = sweep .frame;
         border = border;
         sprites = spr;
         bus = bus;
         rows = now .rows;
         pending = pending;
-        changed = irq .line;
+        changed = sweep .irq .line;
       };
       orders = record {
         cycle = cycle;
@@ -119,5 +128,5 @@ pub turn-glue : (g : Controls) (s : Side) {clk bus : Bus} {cycle line raster k :
       };
     }) (turned g s)
 unfolding turned
-turn-glue g s clk cycle begins last line frame₁ bad fe raster frame irq border ph ba asked bus k sprite mask spr after low pointing fetching now pending =
-    rw (← clk, ← cycle, ← begins, ← last, ← line, ← frame₁, ← bad, ← fe, ← raster, ← frame, ← irq, ← border, ← ph, ← ba, ← asked, ← bus, ← k, ← sprite, ← mask, ← spr, ← after, ← low, ← pointing, ← fetching, ← now, ← pending)
+turn-glue g s clk cycle sweep bad border ph ba asked bus k sprite mask spr after low pointing fetching now pending =
+    rw (← clk, ← cycle, ← sweep, ← bad, ← border, ← ph, ← ba, ← asked, ← bus, ← k, ← sprite, ← mask, ← spr, ← after, ← low, ← pointing, ← fetching, ← now, ← pending)

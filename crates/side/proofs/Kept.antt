@@ -9,8 +9,9 @@ use Rattle.laws.specs.Clock.{canTick}
 use Rattle.laws.specs.Pick.{pick}
 use Rattle.laws.proofs.Choice.{either, left, picks}
 use Rattle.schedule.specs.Kind.{lastCycle, lastLine}
-use Rattle.schedule.specs.Diagram.{happens, vcLoad, accessChosen, vmliCounts, graphicsAccess, mcbaseStep, firstPhase, secondPhase, mcLoad, pointerTime, dataTime}
+use Rattle.schedule.specs.Diagram.{happens, lineBegins, vcLoad, accessChosen, vmliCounts, graphicsAccess, mcbaseStep, firstPhase, secondPhase, mcLoad, pointerTime, dataTime}
 use Rattle.schedule.proofs.Laws.{load-alone, room, room-next, room-wraps}
+use Rattle.registers.specs.declared.Irq.{Irq}
 use Rattle.timing.specs.Beam.{nextCycle}
 use Rattle.timing.proofs.Kept.{cycle-low, cycle-high, cycle-next, cycle-wraps, line-high, fresh-cycle, fresh-raster}
 use Rattle.sprites.specs.declared.Sprites.{Sprites}
@@ -19,11 +20,13 @@ use Rattle.sprites.proofs.Kept.{fine-mcbase, fine-first, fine-second, fine-load
 use Rattle.arbitration.specs.declared.Bus.{Bus}
 use Rattle.arbitration.specs.Bus.{Counted, clockOn, clocked, arbitrated}
 use Rattle.arbitration.proofs.Kept.{aec-kept, clock-on-range, arbitrated-aec, arbitrated-clock, clocked-aec, clocked-clock, fresh-aec, fresh-clock}
-use Rattle.access.proofs.Laws.{Pends, pending-small}
+use Rattle.access.specs.Matrix.{Pends}
+use Rattle.access.proofs.Laws.{pending-small}
 use Rattle.side.specs.declared.Rows.{Rows}
 use Rattle.side.specs.declared.Side.{Side}
 use Rattle.side.specs.Fine.{FineSide, vmliLimit}
-use Rattle.side.specs.Frame.{rasterBegun}
+use Rattle.side.specs.declared.Frame.{Frame}
+use Rattle.side.specs.Frame.{rasterBegun, swept}
 use Rattle.side.specs.Rows.{freshRows, vcAfter, vmliAfter, rcAfter, rowed}
 use Rattle.side.specs.Phases.{stepAt, firstAt, secondAt, loadAt, phased, slotMoved}
 use Rattle.side.specs.Turn.{Controls, freshSide, turned}
@@ -32,10 +35,10 @@ use Rattle.side.specs.Turn.{Controls, freshSide, turned}
 one-of : {A : Type 0} (P : A → Type 0) (b : Bool) {x y : A} → P x → P y → P (pick b x y)
 one-of P b {x} {y} p q = rw (picks b x y) (either P b p q)
 
-raster-kept : (begins wraps : Bool) (r : ℕ) → r ≤ lastLine → pick wraps 0 (rasterBegun begins r) ≤ lastLine
-unfolding rasterBegun
-raster-kept begins wraps r h =
-    one-of (λ (n : ℕ). n ≤ lastLine) wraps (omega arith) (either (λ (n : ℕ). n ≤ lastLine) begins (line-high r h) h)
+raster-kept : (f : Frame) (i : Irq) (cycle r : ℕ) (den : Bool) (compare : ℕ) → r ≤ lastLine → swept f i cycle r den compare .raster ≤ lastLine
+unfolding swept rasterBegun
+raster-kept f i cycle r den compare h =
+    one-of (λ (n : ℕ). n ≤ lastLine) _ (omega arith) (either (λ (n : ℕ). n ≤ lastLine) (happens lineBegins cycle) (line-high r h) h)
 
 -- the counters of a row
 vc-kept : (moves : Bool) (n : ℕ) → n ≤ 1023 → vcAfter moves n ≤ 1023
@@ -139,11 +142,11 @@ module _ (g : Controls) (s : Side) where
   pub side-kept : FineSide s → canTick (s .bus .clock) → FineSide (turned g s .side)
   unfolding turned
   side-kept h t =
-      let rows = rows-kept (s .beam .cycle) _ _ _ (s .rows) (h .high) (record { vc = h .vc; vcbase = h .vcbase; rc = h .rc; vmli = h .vmli }) in
+      let rows = rows-kept (s .beam .cycle) _ _ _ (s .rows) (h .last) (record { vc = h .vc; vcbase = h .vcbase; rc = h .rc; vmli = h .vmli }) in
       record {
-        low = cycle-low (s .beam .cycle);
-        high = cycle-high (s .beam .cycle);
-        raster = raster-kept _ _ (s .beam .raster) (h .raster);
+        first = cycle-low (s .beam .cycle);
+        last = cycle-high (s .beam .cycle);
+        raster = raster-kept (s .frame) (s .irq) _ (s .beam .raster) _ _ (h .raster);
         aec = bus-aec (s .bus) _ (h .aec);
         vc = rows .vc;
         vcbase = rows .vcbase;
@@ -168,8 +171,8 @@ pub side-same : {s t : Side}
     → FineSide t
 side-same beam bus vc vcbase rc vmli sprites place h =
     record {
-      low = rw beam (h .low);
-      high = rw beam (h .high);
+      first = rw beam (h .first);
+      last = rw beam (h .last);
       raster = rw beam (h .raster);
       aec = rw bus (h .aec);
       vc = rw vc (h .vc);
@@ -185,8 +188,8 @@ pub fresh-fine : FineSide freshSide
 unfolding freshSide freshRows
 fresh-fine =
     record {
-      low = omega (arith, fresh-cycle);
-      high = omega (arith, fresh-cycle);
+      first = omega (arith, fresh-cycle);
+      last = omega (arith, fresh-cycle);
       raster = omega (arith, fresh-raster);
       aec = fresh-aec;
       vc = omega arith;

@@ -5,9 +5,10 @@ use mathlib.Core.Bool.{Bool, true, false, not, _&&_, _||_}
 use mathlib.Core.List.{List}
 use native.Mathlib.Omega.{arith}
 use lib.Dec.{eqb}
+use borrow.Author.Tests.{not-true}
 use Rattle.laws.specs.Bits.{hasBit}
 use Rattle.laws.specs.Pick.{pick}
-use Rattle.laws.proofs.Choice.{picks}
+use Rattle.laws.proofs.Choice.{picks, and-true, and-false, or-false, never-both}
 use Rattle.schedule.specs.Diagram.{happens, graphicsAccess, accessEnds}
 use Rattle.schedule.proofs.Parts.{Lit, Past, Mid, Dark, Later, Between, Calm, Still}
 use Rattle.registers.specs.declared.Irq.{Irq}
@@ -24,9 +25,10 @@ use Rattle.access.specs.Matrix.{pendingAfter}
 use Rattle.side.specs.declared.Frame.{Frame}
 use Rattle.side.specs.declared.Side.{Side}
 use Rattle.side.specs.declared.Turned.{Turned}
+use Rattle.side.specs.declared.Swept.{Swept}
 use Rattle.side.specs.declared.Rows.{Rows}
 use Rattle.side.specs.declared.Rowed.{Rowed}
-use Rattle.side.specs.Frame.{rasterBegun, frameBegun, frameEnded, raised, Sweeps}
+use Rattle.side.specs.Frame.{rasterBegun, frameBegun, frameEnded, raised, swept}
 use Rattle.side.specs.Rows.{vcAfter, vmliAfter, rcAfter, accessAfter, displayAfter, rowed}
 use Rattle.side.specs.Phases.{beginAt, left40At, left38At, right38At, right40At, rememberAt, endAt, bordered, stepAt, firstAt, secondAt, loadAt, phased, slotMoved}
 use Rattle.side.specs.Turn.{Controls, turned}
@@ -68,18 +70,6 @@ module _ (c raster : ℕ) (my : List ℕ) (enable yexp : ℕ) (s : Sprites) wher
   unfolding phased stepAt firstAt secondAt loadAt
   sprites-calm d m = rw (d .step, d .first, m .second, m .load)
 
-and-true : (b : Bool) → (b && true) ≡ b
-and-true true = refl
-and-true false = refl
-
-and-false : (b : Bool) → (b && false) ≡ false
-and-false true = refl
-and-false false = refl
-
-never-both : (b : Bool) → (b && not b) ≡ false
-never-both true = refl
-never-both false = refl
-
 once : (a b : Bool) → (not b && (a && not b)) ≡ (a && not b)
 once true true = refl
 once true false = refl
@@ -88,20 +78,9 @@ once false false = refl
 
 -- past the second cycle the line, the frame and the interrupt stay
 pub swept-later : (f : Frame) (i : Irq) (cycle raster : ℕ) (den : Bool) (compare : ℕ) → Later cycle
-    → Sweeps f i cycle raster den compare (record { line = raster; begun = f; wraps = false; raster = raster; frame = f; irq = i })
-unfolding rasterBegun frameBegun frameEnded raised
-swept-later f i cycle raster den compare l = record {
-  line = rw (l .begins) refl;
-  begun = rw (l .begins) refl;
-  wraps = rw (l .wraps) refl;
-  raster = sym (picks false 0 raster);
-  frame = refl;
-  irq = rw (never-both (f .matched)) refl;
-}
-
-off : (b : Bool) → not b ≡ true → b ≡ false
-off true e = sym e
-off false e = refl
+    → _≡_ {A = Swept} (record { line = raster; begun = f; wraps = false; raster = raster; frame = f; irq = i }) (swept f i cycle raster den compare)
+unfolding swept rasterBegun frameBegun frameEnded raised
+swept-later f i cycle raster den compare l = rw (l .begins, l .wraps, never-both (f .matched), picks false 0 raster)
 
 module _ (c : ℕ) (bad rising : Bool) (r : Rows) where
   pub rows-lit : {over : Bool} {nextVc nextVmli : ℕ}
@@ -138,11 +117,7 @@ module _ (c : ℕ) (bad rising : Bool) (r : Rows) where
       }) (rowed c bad rising wraps r)
   unfolding rowed accessAfter displayAfter rcAfter vcAfter vmliAfter
   rows-still wraps w s =
-      rw (off wraps w, s .loads, s .chosen, s .over, s .ends, s .graphics, s .character, picks false (r .vcbase) (r .vc), picks false 0 (r .vmli), picks false 0 (r .rc), picks false 0 (r .vcbase), picks false (r .vc) (r .vcbase), and-true (r .transition), and-true (r .transition), and-true (r .access))
-
-or-false : (b : Bool) → (b || false) ≡ b
-or-false true = refl
-or-false false = refl
+      rw (not-true wraps w, s .loads, s .chosen, s .over, s .ends, s .graphics, s .character, picks false (r .vcbase) (r .vc), picks false 0 (r .vmli), picks false 0 (r .rc), picks false 0 (r .vcbase), picks false (r .vc) (r .vcbase), and-true (r .transition), and-true (r .transition), and-true (r .access))
 
 -- between the left compares and the last graphics access, with nothing pending
 pub rows-mid : (c : ℕ) (r : Rows) → Lit c → Mid c → r .transition ≡ false → r .access ≡ false
@@ -209,6 +184,6 @@ pub lit-glue : (g : Controls) (s : Side) {clk bus : Bus} {cycle : ℕ} {bad ba a
         low = s .bus .aeclow;
       };
     }) (turned g s)
-unfolding turned rasterBegun frameBegun frameEnded raised slotMoved
+unfolding turned swept rasterBegun frameBegun frameEnded raised slotMoved
 lit-glue g s {bus = bus'} l clk cycle bad border ph ba asked bus sprite mask now pending =
     rw (← clk, ← cycle, l .begins, l .wraps, never-both (s .frame .matched), picks false 0 (s .beam .raster), ← bad, ← border, ← ph, ← ba, ← asked, ← bus, l .sprite, l .pointing, l .fetching, l .after, ← sprite, ← mask, picks false (bus' .aeclow) (s .bus .aeclow), ← now, ← pending)

@@ -6,7 +6,7 @@ use Rattle.schedule.specs.Kind.{lastCycle, lastLine}
 use Rattle.schedule.specs.Diagram.{happens, vmliCounts}
 use Rattle.sprites.specs.Fine.{FineSprites}
 use Rattle.arbitration.specs.Bus.{Counted}
-use Rattle.access.proofs.Laws.{Pends}
+use Rattle.access.specs.Matrix.{Pends}
 use Rattle.side.specs.declared.Side.{Side}
 
 -- VMLI 0..40, and where it counts no higher than an ordinary bad line has it: 0 after the first character access, one more after each
@@ -14,8 +14,8 @@ unfoldable pub vmliLimit : ℕ → ℕ
 vmliLimit cycle = pick (happens vmliCounts cycle) (cycle - 15) 40
 
 pub record FineSide (s : Side) : Type 0 where
-  pub low : 1 ≤ s .beam .cycle
-  pub high : s .beam .cycle ≤ lastCycle
+  pub first : 1 ≤ s .beam .cycle
+  pub last : s .beam .cycle ≤ lastCycle
   pub raster : s .beam .raster ≤ lastLine
   pub aec : Counted (s .bus .aec)
   pub vc : s .rows .vc ≤ 1023

@@ -1,6 +1,5 @@
 -- The beginning of a line and the end of a frame (01, tick 3 and 4).
 use Prim.Native.Nat.{ℕ}
-use mathlib.Core.Path.{_≡_}
 use mathlib.Core.Bool.{Bool, true, false, not, _&&_, _||_, cond}
 use lib.Dec.{eqb}
 use Rattle.laws.specs.Pick.{pick}
@@ -35,11 +34,21 @@ frameEnded f wraps = cond wraps (record { ending = false; matched = f .matched; 
 unfoldable pub raised : Irq → Bool → Irq
 raised irq raises = cond raises (triggered irq 1) irq
 
--- what a part of the code hands on of tick 3 and 4, name by name as `turned` has them
-pub record Sweeps (f : Frame) (i : Irq) (cycle before : ℕ) (den : Bool) (compare : ℕ) (r : Swept) : Type 0 where
-  pub line : r .line ≡ rasterBegun (happens lineBegins cycle) before
-  pub begun : r .begun ≡ frameBegun f (happens lineBegins cycle) (happens lineBegins cycle && atLastLine before) (r .line) den compare
-  pub wraps : r .wraps ≡ (happens frameEnds cycle && r .begun .ending)
-  pub raster : r .raster ≡ pick (r .wraps) 0 (r .line)
-  pub frame : r .frame ≡ frameEnded (r .begun) (r .wraps)
-  pub irq : r .irq ≡ raised i ((r .begun .matched && not (f .matched)) || (r .wraps && eqb compare 0))
+-- what the line and the frame do in a cycle, and what the rest of the tick reads of it
+unfoldable pub swept : Frame → Irq → ℕ → ℕ → Bool → ℕ → Swept
+swept f i cycle before den compare =
+    -- tick 3: a line begins
+    let begins = happens lineBegins cycle in
+    let line = rasterBegun begins before in
+    let begun = frameBegun f begins (begins && atLastLine before) line den compare in
+    -- tick 4: a frame ends
+    let wraps = happens frameEnds cycle && begun .ending in
+    record {
+      line = line;
+      begun = begun;
+      wraps = wraps;
+      raster = pick wraps 0 line;
+      frame = frameEnded begun wraps;
+      -- tick 3 and 4: once while matched; at the frame's end without a look at the match
+      irq = raised i ((begun .matched && not (f .matched)) || (wraps && eqb compare 0));
+    }

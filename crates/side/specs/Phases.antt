@@ -12,16 +12,16 @@ unfoldable pub beginAt : ℕ → ℕ → Bool → Border → Border
 beginAt cycle raster den b = cond (happens lineBegins cycle) (B.lineBegun b raster den) b
 
 unfoldable pub left40At : ℕ → ℕ → Bool → Bool → Border → Border
-left40At cycle raster den csel b = cond (happens left40 cycle) (B.left40 b csel raster den) b
+left40At cycle raster den csel b = cond (happens left40 cycle) (B.left40Passed b csel raster den) b
 
 unfoldable pub left38At : ℕ → ℕ → Bool → Bool → Border → Border
-left38At cycle raster den csel b = cond (happens left38 cycle) (B.left38 b csel raster den) b
+left38At cycle raster den csel b = cond (happens left38 cycle) (B.left38Passed b csel raster den) b
 
 unfoldable pub right38At : ℕ → Bool → Border → Border
-right38At cycle csel b = cond (happens right38 cycle) (B.right38 b csel) b
+right38At cycle csel b = cond (happens right38 cycle) (B.right38Passed b csel) b
 
 unfoldable pub right40At : ℕ → Bool → Border → Border
-right40At cycle csel b = cond (happens right40 cycle) (B.right40 b csel) b
+right40At cycle csel b = cond (happens right40 cycle) (B.right40Passed b csel) b
 
 unfoldable pub rememberAt : ℕ → Border → Border
 rememberAt cycle b = cond (happens mainRemembered cycle) (B.remembered b) b

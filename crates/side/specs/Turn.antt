@@ -1,13 +1,13 @@
--- One tick of the timing side, in the order of 01's list. No picture value is in sight.
+-- One tick of the timing side: each part has its step's number of 01's list, and stands after the parts that it reads. No picture value is in sight.
 use Prim.Native.Nat.{ℕ}
 use mathlib.Core.Bool.{Bool, true, false, not, _&&_, _||_}
 use mathlib.Core.List.{List}
 use lib.Dec.{eqb}
 use Rattle.laws.specs.Bits.{hasBit}
 use Rattle.laws.specs.Pick.{pick}
-use Rattle.schedule.specs.Diagram.{happens, lineBegins, frameEnds, pointerTime, dataTime, slotSprite, slotAfterBus}
+use Rattle.schedule.specs.Diagram.{pointerTime, dataTime, slotSprite, slotAfterBus}
 use Rattle.registers.specs.Irq.{quiet}
-use Rattle.timing.specs.Beam.{nextCycle, atLastLine, badLine, baOutput}
+use Rattle.timing.specs.Beam.{nextCycle, badLine, baOutput}
 use Rattle.timing.specs.Beam as Beams
 use Rattle.border.specs.Border as Borders
 use Rattle.sprites.specs.Sprites.{allFresh, spriteAt}
@@ -17,7 +17,7 @@ use Rattle.access.specs.Matrix.{pendingAfter}
 use Rattle.access.specs.declared.Pending.the-variants.{Nothing}
 use Rattle.side.specs.declared.Side.{Side}
 use Rattle.side.specs.declared.Turned.{Turned}
-use Rattle.side.specs.Frame.{freshFrame, rasterBegun, frameBegun, frameEnded, raised}
+use Rattle.side.specs.Frame.{freshFrame, swept}
 use Rattle.side.specs.Rows.{freshRows, rowed}
 use Rattle.side.specs.Phases.{bordered, phased, slotMoved}
 
@@ -55,18 +55,12 @@ unfoldable pub turned : Controls → Side → Turned
 turned g s =
     -- tick 1: cycle +1
     let cycle = nextCycle (s .beam .cycle) in
-    -- tick 3: a line begins
-    let begins = happens lineBegins cycle in
-    let line = rasterBegun begins (s .beam .raster) in
-    let begun = frameBegun (s .frame) begins (begins && atLastLine (s .beam .raster)) line (g .den) (g .compare) in
-    -- tick 2 and 3: the live bad line
-    let bad = badLine line (g .yscroll) (begun .latch) in
+    -- tick 3 and 4: a line begins, a frame ends
+    let sweep = swept (s .frame) (s .irq) cycle (s .beam .raster) (g .den) (g .compare) in
+    let raster = sweep .raster in
+    -- tick 2 and 3: the live bad line, on the line and the latch before a frame's end
+    let bad = badLine (sweep .line) (g .yscroll) (sweep .begun .latch) in
     let rising = bad && not (s .beam .bad) in
-    -- tick 4: a frame ends
-    let wraps = happens frameEnds cycle && begun .ending in
-    let raster = pick wraps 0 line in
-    -- tick 3 and 4: once while matched; at the frame's end without a look at the match
-    let irq = raised (s .irq) ((begun .matched && not (s .frame .matched)) || (wraps && eqb (g .compare) 0)) in
     -- tick 3, 7, 8 and 9: the border's compares, the sprites' phases
     let border = bordered cycle raster (g .den) (g .csel) (s .border) in
     let sprites = phased cycle raster (g .my) (g .enable) (g .yexp) (s .sprites) in
@@ -76,19 +70,19 @@ turned g s =
     -- tick 5: the slot of this cycle
     let k = slotSprite cycle in
     -- tick 8: the row counters
-    let now = rowed cycle bad rising wraps (s .rows) in
+    let now = rowed cycle bad rising (sweep .wraps) (s .rows) in
     record {
       side = record {
-        irq = irq;
+        irq = sweep .irq;
         beam = record { cycle = cycle; raster = raster; den = g .den; rsel = g .rsel; yscroll = g .yscroll; bad = bad; rising = rising; ba = ba };
-        frame = frameEnded begun wraps;
+        frame = sweep .frame;
         border = border;
         sprites = slotMoved cycle k sprites;
         bus = bus;
         rows = now .rows;
         pending = pendingAfter (now .fetches && not (bus .aeclow)) (now .rows .vmli) (s .pending);
         -- tick 10: IRQ-changed copies the line
-        changed = irq .line;
+        changed = sweep .irq .line;
       };
       orders = record {
         cycle = cycle;

@@ -6,7 +6,7 @@ ghost use Rattle.laws.specs.Clock.{inRange};
 ghost use Rattle.schedule.specs.Diagram.{happens, graphicsAccess};
 ghost use Rattle.timing.specs.Beam.{nextCycle};
 ghost use Rattle.arbitration.specs.Bus.{requested};
-ghost use Rattle.side.specs.Frame.{freshFrame, frameBegun, frameEnded, rasterBegun, raised, Sweeps};
+ghost use Rattle.side.specs.Frame.{freshFrame, frameBegun, frameEnded, rasterBegun, raised, swept};
 ghost use Rattle.side.specs.Rows.{freshRows, vcAfter, vmliAfter, rcAfter, accessAfter, displayAfter, rowed};
 ghost use Rattle.side.specs.Phases.{beginAt, left40At, left38At, right38At, right40At, rememberAt, endAt, bordered, stepAt, firstAt, secondAt, loadAt, phased, slotMoved};
 ghost use Rattle.side.specs.Turn.{controls, freshSide, turned};
@@ -161,7 +161,7 @@ fn raise(irq: Irq, raises: bool) -> Irq
 
 // A line begins, and a frame ends.
 fn line_ends(frame: Frame, irq: Irq, cycle: u16, raster: u16, den: bool, compare: u16) -> Swept
-    ensures { λ r. ⌜ Sweeps frame irq cycle raster den compare r ⌝ }
+    ensures { λ r. ⌜ r ≡ swept frame irq cycle raster den compare ⌝ }
 {
     let begins = schedule::line_begins(cycle);
     let last = begins & timing::at_last_line(raster);
@@ -187,7 +187,7 @@ fn line_ends(frame: Frame, irq: Irq, cycle: u16, raster: u16, den: bool, compare
 // Past the second cycle neither happens.
 fn line_turn(frame: Frame, irq: Irq, cycle: u16, raster: u16, den: bool, compare: u16) -> Swept
     requires { ⌜ cycle < 64 ⌝ }
-    ensures { λ r. ⌜ Sweeps frame irq cycle raster den compare r ⌝ }
+    ensures { λ r. ⌜ r ≡ swept frame irq cycle raster den compare ⌝ }
 {
     let later = 2 < cycle;
     if later {

@@ -14,7 +14,7 @@ use Rattle.laws.specs.Bits.{hasBit}
 use Rattle.laws.proofs.Choice.{either, left, right}
 use Rattle.sprites.specs.declared.Sprite.{Sprite}
 use Rattle.sprites.specs.declared.Sprites.{Sprites}
-use Rattle.sprites.specs.Sprites.{fresh, allFresh, none, spriteAt, spriteAt≔, upTo, inEither, inBoth, crunched, nextBase, stepped, stepOne, mcbaseStepped, starts, begun, startOne, startAt, started, firstPhased, secondPhased, loadOne, loaded, showOne, showAt, shown, mcLoaded, expandWritten, fetches, fetched}
+use Rattle.sprites.specs.Sprites.{fresh, allFresh, none, spriteAt, spriteAt≔, upTo, inEither, inBoth, crunched, nextBase, stepped, stepOne, mcbaseStepped, starts, dmaBegun, startOne, startAt, started, firstPhased, secondPhased, loadOne, loaded, showOne, showAt, shown, mcLoaded, expandWritten, fetches, fetched}
 use Rattle.sprites.specs.Fine.{FineSprite, FineSprites, fineOne, fineTest}
 
 -- the masks do not matter
@@ -70,8 +70,8 @@ pub fine-mcbase : {s : Sprites} → FineSprites s → FineSprites (mcbaseStepped
 unfolding mcbaseStepped
 fine-mcbase h = as-each refl (over fine-step-one 8 (as-each refl h))
 
-fine-begun : (k yexp : ℕ) {s : Sprites} → FineSprites s → FineSprites (begun k yexp s)
-unfolding begun
+fine-begun : (k yexp : ℕ) {s : Sprites} → FineSprites s → FineSprites (dmaBegun k yexp s)
+unfolding dmaBegun
 fine-begun k yexp h = as-each refl (changed k (λ f. record { number = f .number; mc = f .mc; base = omega arith }) h)
 
 fine-started : (line : ℕ) (my : List ℕ) (enable yexp : ℕ) {s : Sprites} → FineSprites s → FineSprites (started line my enable yexp s)

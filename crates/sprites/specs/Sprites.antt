@@ -80,13 +80,13 @@ abbrev pub starts : ℕ → ℕ → ℕ → ℕ → Sprites → Bool
 starts line enable k y s = not (hasBit (s .dma) k) && hasBit enable k && eqb y line
 
 -- Bauer 3.8.1 rule 3: DMA on, MCBASE 0, and with MxYE set the flip-flop is reset
-unfoldable pub begun : ℕ → ℕ → Sprites → Sprites
-begun k yexp s =
+unfoldable pub dmaBegun : ℕ → ℕ → Sprites → Sprites
+dmaBegun k yexp s =
     flip≔ (cond (hasBit yexp k) (withoutBit (s .flip) k) (s .flip))
     (dma≔ (withBit (s .dma) k) (spriteAt≔ k (sprite-base≔ 0 (sprite-dma≔ true (spriteAt s k))) s))
 
 unfoldable pub startOne : ℕ → ℕ → ℕ → ℕ → ℕ → Sprites → Sprites
-startOne line enable yexp k y s = cond (starts line enable k y s) (begun k yexp s) s
+startOne line enable yexp k y s = cond (starts line enable k y s) (dmaBegun k yexp s) s
 
 abbrev pub startAt : ℕ → List ℕ → ℕ → ℕ → ℕ → Sprites → Sprites
 startAt line my enable yexp k s = startOne line enable yexp k (getD my k 0) s

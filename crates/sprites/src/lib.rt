@@ -2,7 +2,7 @@
 ghost use mathlib.Core.Path.{_≡_};
 ghost use mathlib.Core.Bool.{Bool};
 ghost use Prim.Native.Nat.{_<_, _≤_};
-ghost use Rattle.sprites.specs.Sprites.{fresh, allFresh, spriteAt, spriteAt≔, crunched, nextBase, stepped, stepOne, mcbaseStepped, begun, startOne, started, firstPhased, secondPhased, loadOne, loaded, showOne, shown, mcLoaded, clearAfter, flipAfter, expandWritten, fetches, fetched};
+ghost use Rattle.sprites.specs.Sprites.{fresh, allFresh, spriteAt, spriteAt≔, crunched, nextBase, stepped, stepOne, mcbaseStepped, dmaBegun, startOne, started, firstPhased, secondPhased, loadOne, loaded, showOne, shown, mcLoaded, clearAfter, flipAfter, expandWritten, fetches, fetched};
 ghost use Rattle.sprites.specs.Fine.{fineOne, fineTest};
 
 pub struct Sprite {
@@ -158,7 +158,7 @@ impl Sprites {
 
     fn begin(self, k: usize, yexp: u8) -> Self
         requires { ⌜ k < 8 ⌝ }
-        ensures { λ r. ⌜ r ≡ begun k yexp self ⌝ }
+        ensures { λ r. ⌜ r ≡ dmaBegun k yexp self ⌝ }
     {
         let mut s = self.at(k);
         s.base = 0;

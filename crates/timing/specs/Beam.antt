@@ -5,8 +5,6 @@ use lib.Dec.{eqb, leb, ltb}
 use Rattle.schedule.specs.Kind.{lastCycle, lastLine}
 use Rattle.schedule.specs.Diagram.{happens, matrixRequest}
 use Rattle.timing.specs.declared.Beam.{Beam}
-use Rattle.timing.specs.declared.Lined.{Lined}
-use Rattle.timing.specs.Set.{cycle≔, raster≔, den≔, rsel≔, yscroll≔, bad≔, rising≔, ba≔}
 
 -- Bauer 3.5: lines 0x30 to 0xF7 whose low three bits equal YSCROLL, where DEN was latched on line 0x30
 unfoldable pub badLine : ℕ → ℕ → Bool → Bool
@@ -30,24 +28,3 @@ nextLine raster = cond (ltb raster lastLine) (raster + 1) raster
 -- 01, power-up: the state before the first tick of a frame
 unfoldable pub fresh : Beam
 fresh = record { cycle = lastCycle; raster = lastLine; den = false; rsel = false; yscroll = 0; bad = false; rising = false; ba = true }
-
--- 01, tick 1: latch DEN, RSEL, YSCROLL
-unfoldable pub latched : Beam → Bool → Bool → ℕ → Beam
-latched b den rsel yscroll = den≔ den (rsel≔ rsel (yscroll≔ yscroll b))
-
--- 01, tick 1: rising edge off, BA output from the old bad-line flag
-unfoldable pub advanced : Beam → Beam
-advanced b = ba≔ (baOutput (b .bad) (nextCycle (b .cycle))) (rising≔ false (cycle≔ (nextCycle (b .cycle)) b))
-
-unfoldable pub lined : Beam → Lined
-lined b = record { beam = raster≔ (nextLine (b .raster)) b; last = atLastLine (b .raster) }
-
--- 01, tick 4: raster 0
-unfoldable pub wrapped : Beam → Beam
-wrapped b = raster≔ 0 b
-
--- 01, tick 2: the live bad line and its rise
-unfoldable pub lived : Beam → ℕ → Bool → Beam
-lived b yscroll latch =
-    let now = badLine (b .raster) yscroll latch in
-    ba≔ (baOutput now (b .cycle)) (rising≔ (now && not (b .bad)) (bad≔ now b))

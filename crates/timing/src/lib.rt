@@ -1,7 +1,7 @@
 // The beam: cycle and raster line, the bad line condition, and the BA output that a bad line asks for.
 ghost use mathlib.Core.Path.{_≡_};
 ghost use mathlib.Core.Bool.{Bool};
-ghost use Rattle.timing.specs.Beam.{badLine, baOutput, nextCycle, atLastLine, nextLine, fresh, latched, advanced, lined, wrapped, lived};
+ghost use Rattle.timing.specs.Beam.{badLine, baOutput, nextCycle, atLastLine, nextLine, fresh};
 
 pub struct Beam {
     pub cycle: u16,
@@ -13,12 +13,6 @@ pub struct Beam {
     pub rising: bool,
     // true is high: the matrix asks for nothing
     pub ba: bool,
-}
-
-// A beam one line on, and whether it stood on the last line and stayed there.
-pub struct Lined {
-    pub beam: Beam,
-    pub last: bool,
 }
 
 // Whether a raster line is a bad one.
@@ -69,57 +63,5 @@ impl Beam {
             rising: false,
             ba: true,
         }
-    }
-
-    // The control bits as this tick finds them.
-    pub fn latch(mut self, den: bool, rsel: bool, yscroll: u8) -> Self
-        ensures { λ r. ⌜ r ≡ latched self den rsel yscroll ⌝ }
-    {
-        self.den = den;
-        self.rsel = rsel;
-        self.yscroll = yscroll;
-        self
-    }
-
-    // One cycle on, with the bad line flag as the last tick left it.
-    pub fn advance(mut self) -> Self
-        ensures { λ r. ⌜ r ≡ advanced self ⌝ }
-    {
-        let cycle = next_cycle(self.cycle);
-        self.cycle = cycle;
-        self.rising = false;
-        self.ba = ba_output(self.bad, cycle);
-        self
-    }
-
-    // One line on, or the last line kept.
-    pub fn line(mut self) -> Lined
-        ensures { λ r. ⌜ r ≡ lined self ⌝ }
-    {
-        let last = at_last_line(self.raster);
-        self.raster = next_line(self.raster);
-        Lined {
-            beam: self,
-            last: last,
-        }
-    }
-
-    // The wrap that the last line waited for.
-    pub fn wrap(mut self) -> Self
-        ensures { λ r. ⌜ r ≡ wrapped self ⌝ }
-    {
-        self.raster = 0;
-        self
-    }
-
-    // The bad line condition of this moment, its rise, and the BA output that follows.
-    pub fn live(mut self, yscroll: u8, latch: bool) -> Self
-        ensures { λ r. ⌜ r ≡ lived self yscroll latch ⌝ }
-    {
-        let bad = bad_line(self.raster, yscroll, latch);
-        self.rising = bad & !self.bad;
-        self.bad = bad;
-        self.ba = ba_output(bad, self.cycle);
-        self
     }
 }

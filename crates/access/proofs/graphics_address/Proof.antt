@@ -1,19 +1,15 @@
 use Prim.Native.Nat.{ℕ}
-use mathlib.Core.Path.{_≡_, refl, _∙_}
-use mathlib.Core.Bool.{Bool, true, false, not, _&&_}
+use mathlib.Core.Path.{_≡_, _∙_}
+use Rattle.laws.proofs.Choice.{never-both}
 use Rattle.access.specs.Graphics.{ecm, bmm, ecmMasked, plainAddress, bmmFell, ecmFell, graphicsAddress}
 use borrow.Author.Needs.{needs}
 use Rattle.access.proofs.graphics_address.Statement.{statement}
 use Rattle.access.proofs.graphics_address.Tie as tie
 
-never : (b : Bool) → (b && not b) ≡ false
-never true = refl
-never false = refl
-
 -- a mode that stays has no bit that fell
 same-mode : (mode old ptrs ch vc rc bank : ℕ) → mode ≡ old → plainAddress mode ptrs ch vc rc ≡ graphicsAddress mode old ptrs ch vc rc bank
 unfolding graphicsAddress ecmFell bmmFell ecmMasked
-same-mode mode old ptrs ch vc rc bank e = rw (← e, never (ecm mode), never (bmm mode))
+same-mode mode old ptrs ch vc rc bank e = rw (← e, never-both (ecm mode), never-both (bmm mode))
 
 plain-address-requires : tie.Need-plain-address-requires
 plain-address-requires c κs = search needs

@@ -1,6 +1,6 @@
 use borrow.Author.Needs.{needs}
 use borrow.Author.Tests.{ne-eqb}
-use Rattle.script.specs.Step.{decoded}
+use Rattle.script.specs.Step.{stepDecoded}
 use Rattle.script.proofs.decode.Statement.{statement}
 use Rattle.script.proofs.decode.Tie as tie
 
@@ -35,39 +35,39 @@ allowed-if-requires-8 : tie.Need-allowed-if-requires-8
 allowed-if-requires-8 c κs = search needs
 
 returns : tie.Need-returns
-unfolding decoded
+unfolding stepDecoded
 returns c = simp (c .before .match .keys1, c .allowed-if .ensures)
 
 returns-2 : tie.Need-returns-2
-unfolding decoded
+unfolding stepDecoded
 returns-2 c = simp (c .before .match .keys2, c .allowed-if2 .ensures)
 
 returns-3 : tie.Need-returns-3
-unfolding decoded
+unfolding stepDecoded
 returns-3 c = simp (c .before .match .keys3, c .allowed-if3 .ensures)
 
 returns-4 : tie.Need-returns-4
-unfolding decoded
+unfolding stepDecoded
 returns-4 c = simp (c .before .before .before .match .keys4, c .allowed-if4 .ensures, c .before .word2 .ensures, c .before .before .word .ensures)
 
 returns-5 : tie.Need-returns-5
-unfolding decoded
+unfolding stepDecoded
 returns-5 c = simp (c .before .match .keys5, c .allowed-if5 .ensures)
 
 returns-6 : tie.Need-returns-6
-unfolding decoded
+unfolding stepDecoded
 returns-6 c = simp (c .before .match .keys6, c .allowed-if6 .ensures)
 
 returns-7 : tie.Need-returns-7
-unfolding decoded
+unfolding stepDecoded
 returns-7 c = simp (c .before .match .keys7, c .allowed-if7 .ensures)
 
 returns-8 : tie.Need-returns-8
-unfolding decoded
+unfolding stepDecoded
 returns-8 c = simp (c .before .match .keys8, c .allowed-if8 .ensures)
 
 returns-9 : tie.Need-returns-9
-unfolding decoded
+unfolding stepDecoded
 returns-9 c = simp (ne-eqb _ _ (c .match .rest .0 .0 .0 .0 .0 .0 .0 .1), ne-eqb _ _ (c .match .rest .0 .0 .0 .0 .0 .0 .1), ne-eqb _ _ (c .match .rest .0 .0 .0 .0 .0 .1), ne-eqb _ _ (c .match .rest .0 .0 .0 .0 .1), ne-eqb _ _ (c .match .rest .0 .0 .0 .1), ne-eqb _ _ (c .match .rest .0 .0 .1), ne-eqb _ _ (c .match .rest .0 .1), ne-eqb _ _ (c .match .rest .1))
 
 pub decode-spec : {M : Type 1} → statement M

@@ -1,7 +1,7 @@
 use mathlib.Core.Path.{sym, _∙_}
 use native.Mathlib.Omega.{arith}
 use borrow.Author.Needs.{needs}
-use Rattle.script.specs.Cursor.{done}
+use Rattle.script.specs.Cursor.{stepRead}
 use Rattle.script.proofs.Room.{step-room}
 use Rattle.script.proofs.step_in.Statement.{statement}
 use Rattle.script.proofs.step_in.Tie as tie
@@ -25,13 +25,13 @@ enum-known-number : tie.Need-enum-known-number
 enum-known-number c = search needs
 
 returns : tie.Need-returns
-unfolding done
+unfolding stepRead
 returns c =
     let d = c .before .before .before .before .before in
     simp (sym (d .step-of .ensures) ∙ c .before .before .before .step .given .1)
 
 returns-2 : tie.Need-returns-2
-unfolding done
+unfolding stepRead
 returns-2 c = simp (sym (c .before .before .before .step-of .ensures) ∙ c .before .number .given .1)
 
 pub step-in-spec : {M : Type 1} → statement M

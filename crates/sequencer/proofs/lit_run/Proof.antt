@@ -64,7 +64,7 @@ leap-requires c κs =
     let h = host (start .args .ram .now) (start .args .rom .now) (start .args .colour .now) (start .args .bank) in
     let w = world (start .args .core) (start .args .matrix .now) (start .args .pointers .now) (start .args .bytes .now) (start .args .words .now) in
     let fine = accepted-fine _ (c .before .before .before .before .before .before .before .loop .inv .going .held .fine) .side in
-    (fine .clock, omega (arith, fine .high))
+    (fine .clock, omega (arith, fine .last))
 
 inner-lit-requires : tie.Need-inner-lit-requires Inv-loop μ-loop
 inner-lit-requires c κs =

@@ -1,4 +1,4 @@
-use mathlib.Core.Path.{refl}
+use Rattle.side.proofs.Glue.{sweep-glue}
 use borrow.Author.Needs.{needs}
 use Rattle.side.proofs.line_ends.Statement.{statement}
 use Rattle.side.proofs.line_ends.Tie as tie
@@ -28,14 +28,17 @@ raise-requires : tie.Need-raise-requires
 raise-requires c κs = search needs
 
 returns : tie.Need-returns
-returns c = record {
-  line = rw (c .before .before .before .before .before .before .before .before .before .before .line-begins .ensures) at (c .before .before .before .before .before .before .before .before .raster-begun .ensures);
-  begun = rw (c .before .before .before .before .before .before .before .before .before .before .line-begins .ensures, c .before .before .before .before .before .before .before .before .before .at-last-line .ensures) at (c .before .before .before .before .before .before .before .begin .ensures);
-  wraps = rw (c .before .before .before .before .before .before .frame-ends .ensures) refl;
-  raster = c .before .before .before .before .pick16 .ensures;
-  frame = c .before .before .before .end .ensures;
-  irq = c .raise .ensures;
-}
+returns c =
+    let start = c .before .before .before .before .before .before .before .before .before .before .before .args in
+    sweep-glue (start .frame) (start .irq) (start .cycle) (start .raster) (start .den) (start .compare)
+    (c .before .before .before .before .before .before .before .before .before .before .line-begins .ensures)
+    (c .before .before .before .before .before .before .before .before .before .at-last-line .ensures)
+    (c .before .before .before .before .before .before .before .before .raster-begun .ensures)
+    (c .before .before .before .before .before .before .before .begin .ensures)
+    (c .before .before .before .before .before .before .frame-ends .ensures)
+    (c .before .before .before .before .pick16 .ensures)
+    (c .before .before .before .end .ensures)
+    (c .raise .ensures)
 
 pub line-ends-spec : {M : Type 1} → statement M
 line-ends-spec =

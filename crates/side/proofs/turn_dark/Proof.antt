@@ -1,4 +1,3 @@
-use mathlib.Core.Path.{refl}
 use Rattle.schedule.proofs.Laws.{slot-small}
 use Rattle.side.specs.Turn.{controls}
 use Rattle.side.proofs.Glue.{turn-glue}
@@ -68,19 +67,11 @@ returns : tie.Need-returns
 returns c =
     let start = c .before .before .before .before .before .before .before .before .before .before .before .before .before .before .before .before .before .before .before .before .before .before .before .before .before .before .before .before .before .before .before .before .before .before .before .before .args in
     let g = controls (start .den) (start .rsel) (start .yscroll) (start .csel) (start .compare) (start .my) (start .enable) (start .yexp) in
-    let swept = c .before .before .before .before .before .before .before .before .before .before .before .before .before .before .before .before .before .before .before .before .before .before .before .before .before .before .line-turn .ensures in
     turn-glue g (start .side)
     (c .before .before .before .before .before .before .before .before .before .before .before .before .before .before .before .before .before .before .before .before .before .before .before .before .before .before .before .before .clocked .ensures)
     (c .before .before .before .before .before .before .before .before .before .before .before .before .before .before .before .before .before .before .before .before .before .before .before .before .before .before .before .next-cycle .ensures)
-    refl
-    refl
-    (swept .line)
-    (swept .begun)
+    (c .before .before .before .before .before .before .before .before .before .before .before .before .before .before .before .before .before .before .before .before .before .before .before .before .before .before .line-turn .ensures)
     (c .before .before .before .before .before .before .before .before .before .before .before .before .before .before .before .before .before .before .before .before .before .before .bad-line .ensures)
-    refl
-    (rw (swept .wraps) at (swept .raster))
-    (rw (swept .wraps) at (swept .frame))
-    (rw (swept .wraps) at (swept .irq))
     (c .before .before .before .before .before .before .before .before .before .before .before .before .before .before .before .before .before .before .before .before .before .border-dark .ensures)
     (c .before .before .before .before .before .before .before .before .before .before .before .before .before .before .before .before .before .before .before .before .sprites-dark .ensures)
     (c .before .before .before .before .before .before .before .before .before .before .before .before .before .before .before .before .before .before .before .ba-output .ensures)
@@ -94,7 +85,7 @@ returns c =
     (c .before .before .before .before .before .before .before .before .before .before .before .pick-bool .ensures)
     (c .before .before .before .before .before .before .before .before .before .before .pointer-time .ensures)
     (c .before .before .before .before .before .before .before .before .before .data-time .ensures)
-    (rw (swept .wraps) at (c .before .before .before .before .before .before .before .rows-dark .ensures))
+    (c .before .before .before .before .before .before .before .rows-dark .ensures)
     (c .before .before .before .next-pending .ensures)
 
 pub turn-dark-spec : {M : Type 1} → statement M

@@ -1,4 +1,4 @@
-use Rattle.border.specs.Border.{left38}
+use Rattle.border.specs.Border.{left38Passed}
 use borrow.Author.Needs.{needs}
 use Rattle.border.proofs.Border.left38.Statement.{statement}
 use Rattle.border.proofs.Border.left38.Tie as tie
@@ -10,7 +10,7 @@ part-requires : tie.Need-part-requires
 part-requires c κs = search needs
 
 returns : tie.Need-returns
-unfolding left38
+unfolding left38Passed
 returns c = simp (c .part .ensures, c .before .pass-left .ensures)
 
 pub left38-spec : {M : Type 1} → statement M

@@ -2,13 +2,13 @@ use mathlib.Core.Path.{_≡_, refl, _∙_}
 use mathlib.Core.Bool.{Bool, true, false, _||_, cond}
 use Rattle.border.specs.declared.Border.{Border}
 use Rattle.border.specs.Set.{vertical≔}
-use Rattle.border.specs.Border.{bottomReached, topReached, turned, lineEnded}
+use Rattle.border.specs.Border.{bottomReached, topReached, switched, lineEnded}
 use borrow.Author.Needs.{needs}
 use Rattle.border.proofs.Border.line_end.Statement.{statement}
 use Rattle.border.proofs.Border.line_end.Tie as tie
 
-law : (b : Border) (bottom top : Bool) → turned b (bottom || top) bottom ≡ cond bottom (vertical≔ true b) (turned b top false)
-unfolding turned
+law : (b : Border) (bottom top : Bool) → switched b (bottom || top) bottom ≡ cond bottom (vertical≔ true b) (switched b top false)
+unfolding switched
 law b true top = refl
 law b false top = refl
 

@@ -1,4 +1,4 @@
-use Rattle.sprites.specs.Sprites.{begun}
+use Rattle.sprites.specs.Sprites.{dmaBegun}
 use borrow.Author.Needs.{needs}
 use Rattle.sprites.proofs.Sprites.begin.Statement.{statement}
 use Rattle.sprites.proofs.Sprites.begin.Tie as tie
@@ -19,11 +19,11 @@ without-bit-requires : tie.Need-without-bit-requires
 without-bit-requires c κs = search needs
 
 returns : tie.Need-returns
-unfolding begun
+unfolding dmaBegun
 returns c = simp (c .without-bit .ensures, ← c .before .before .has-bit .ensures, c .before .if1 .taken, c .before .before .before .with-bit .ensures, c .before .before .before .before .put .ensures, c .before .before .before .before .before .at .ensures)
 
 returns-2 : tie.Need-returns-2
-unfolding begun
+unfolding dmaBegun
 returns-2 c = simp (← c .before .has-bit .ensures, c .if1 .left, c .before .before .with-bit .ensures, c .before .before .before .put .ensures, c .before .before .before .before .at .ensures)
 
 pub begin-spec : {M : Type 1} → statement M
