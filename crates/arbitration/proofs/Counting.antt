@@ -39,13 +39,17 @@ pub two-on : (z : ℤ) → inRange z → SFits w64 (z +ℤ pos 2)
 two-on (pos n) h = record { sfits = omega arith }
 two-on (negsuc n) h = absurd h
 
--- some cycles on, their number a byte
-twice : (k : ℕ) → Fits w8 k → toZ w64 (k * 2) ≡ pos (k * 2)
-twice k f = toZ-pos w64 (omega (arith, f .fits))
+-- some half cycles on
+module _ (z : ℤ) (m : ℕ) (h : inRange z) (l : m < 512) where
+  few : toZ w64 m ≡ pos m
+  few = toZ-pos w64 (omega arith)
 
-pub some-on : (z : ℤ) (k : ℕ) → inRange z → Fits w8 k → SFits w64 (z +ℤ toZ w64 (k * 2))
-some-on (pos n) k h f = rw (twice k f) (record { sfits = omega (arith, f .fits) })
-some-on (negsuc n) k h f = absurd h
+  fits-on : (y : ℤ) → inRange y → SFits w64 (y +ℤ pos m)
+  fits-on (pos n) r = record { sfits = omega arith }
+  fits-on (negsuc n) r = absurd r
 
-pub some-on-is : (z : ℤ) (k : ℕ) → inRange z → Fits w8 k → toZ w64 (ofZ w64 (z +ℤ toZ w64 (k * 2))) ≡ z +ℤ pos (k * 2)
-some-on-is z k h f = toZ-ofZ (some-on z k h f) ∙ ap (λ (x : ℤ). z +ℤ x) (twice k f)
+  pub some-on : SFits w64 (z +ℤ toZ w64 m)
+  some-on = rw few (fits-on z h)
+
+  pub some-on-is : toZ w64 (ofZ w64 (z +ℤ toZ w64 m)) ≡ z +ℤ pos m
+  some-on-is = toZ-ofZ some-on ∙ ap (λ (x : ℤ). z +ℤ x) few

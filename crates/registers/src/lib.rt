@@ -73,26 +73,6 @@ pub struct Irq {
     pub line: bool,
 }
 
-// Bit 7 of the flags and the line, from the latches and what is enabled.
-fn settle(flags: u8, enable: u8) -> Irq
-    ensures { λ r. ⌜ r ≡ settled flags enable ⌝ }
-{
-    let asked = flags & enable & 0x0F != 0;
-    if asked {
-        Irq {
-            flags: laws::with_bit(flags, 7),
-            enable,
-            line: true,
-        }
-    } else {
-        Irq {
-            flags: laws::without_bit(flags, 7),
-            enable,
-            line: false,
-        }
-    }
-}
-
 impl Irq {
     pub fn new() -> Self
         ensures { λ r. ⌜ r ≡ quiet ⌝ }
@@ -104,22 +84,39 @@ impl Irq {
         }
     }
 
-    pub fn trigger(self, source: u8) -> Self
+    // Bit 7 of the flags and the line, from the latches and what is enabled.
+    fn settle(mut self) -> Self
+        ensures { λ r. ⌜ r ≡ settled (self .flags) (self .enable) ⌝ }
+    {
+        let asked = self.flags & self.enable & 0x0F != 0;
+        self.line = asked;
+        if asked {
+            self.flags = laws::with_bit(self.flags, 7);
+            return self;
+        }
+        self.flags = laws::without_bit(self.flags, 7);
+        self
+    }
+
+    pub fn trigger(mut self, source: u8) -> Self
         ensures { λ r. ⌜ r ≡ triggered self source ⌝ }
     {
-        settle(self.flags | source, self.enable)
+        self.flags = self.flags | source;
+        self.settle()
     }
 
-    pub fn clear(self, mask: u8) -> Self
+    pub fn clear(mut self, mask: u8) -> Self
         ensures { λ r. ⌜ r ≡ cleared self mask ⌝ }
     {
-        settle(self.flags & !(mask % 16), self.enable)
+        self.flags = self.flags & !(mask % 16);
+        self.settle()
     }
 
-    pub fn write_enable(self, v: u8) -> Self
+    pub fn write_enable(mut self, v: u8) -> Self
         ensures { λ r. ⌜ r ≡ enabled self v ⌝ }
     {
-        settle(self.flags, v % 16)
+        self.enable = v % 16;
+        self.settle()
     }
 
     pub fn write(self, addr: u16, v: u8) -> Self

@@ -7,7 +7,7 @@ use Rattle.laws.specs.Bits.{hasBit}
 use Rattle.laws.specs.Pick.{pick}
 use Rattle.schedule.specs.Diagram.{pointerTime, dataTime, slotSprite, slotAfterBus}
 use Rattle.registers.specs.Irq.{quiet}
-use Rattle.timing.specs.Beam.{nextCycle, badLine, baOutput}
+use Rattle.timing.specs.Beam.{nextCycle, badLine, beamTurned}
 use Rattle.timing.specs.Beam as Beams
 use Rattle.border.specs.Border as Borders
 use Rattle.sprites.specs.Sprites.{allFresh, spriteAt}
@@ -60,21 +60,20 @@ turned g s =
     let raster = sweep .raster in
     -- tick 2 and 3: the live bad line, on the line and the latch before a frame's end
     let bad = badLine (sweep .line) (g .yscroll) (sweep .begun .latch) in
-    let rising = bad && not (s .beam .bad) in
+    let beam = beamTurned (s .beam) cycle raster (g .den) (g .rsel) (g .yscroll) bad in
     -- tick 3, 7, 8 and 9: the border's compares, the sprites' phases
     let border = bordered cycle raster (g .den) (g .csel) (s .border) in
     let sprites = phased cycle raster (g .my) (g .enable) (g .yexp) (s .sprites) in
     -- tick 8: arbitration, at the clock of tick 1
-    let ba = baOutput bad cycle in
-    let bus = arbitrated (clocked (s .bus)) (requested ba (sprites .dma) cycle) in
+    let bus = arbitrated (clocked (s .bus)) (requested (beam .ba) (sprites .dma) cycle) in
     -- tick 5: the slot of this cycle
     let k = slotSprite cycle in
     -- tick 8: the row counters
-    let now = rowed cycle bad rising (sweep .wraps) (s .rows) in
+    let now = rowed cycle bad (beam .rising) (sweep .wraps) (s .rows) in
     record {
       side = record {
         irq = sweep .irq;
-        beam = record { cycle = cycle; raster = raster; den = g .den; rsel = g .rsel; yscroll = g .yscroll; bad = bad; rising = rising; ba = ba };
+        beam = beam;
         frame = sweep .frame;
         border = border;
         sprites = slotMoved cycle k sprites;

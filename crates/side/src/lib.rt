@@ -636,25 +636,14 @@ pub fn turn_lit(
     let bad = timing::bad_line(raster, yscroll, frame0.latch);
     let border = border_lit(border0, cycle, raster, den, csel);
     let phased = sprites_lit(sprites0, cycle, raster, my, enable, yexp);
-    let ba = timing::ba_output(bad, cycle);
-    let asked = asked_lit(ba, phased.dma, cycle);
+    let beam = beam0.turn(cycle, raster, den, rsel, yscroll, bad);
+    let asked = asked_lit(beam.ba, phased.dma, cycle);
     let bus = clocked.arbitrate(asked);
     let sprite = phased.at(0);
     let mask = laws::has_bit(phased.dma, 0);
-    let rising = bad & !beam0.bad;
-    let rowed = rows_lit(rows0, cycle, bad, rising);
+    let rowed = rows_lit(rows0, cycle, bad, beam.rising);
     let rows = rowed.rows;
     let pending = access::next_pending(rowed.fetches & !bus.aeclow, rows.vmli, pending0);
-    let beam = Beam {
-        cycle: cycle,
-        raster: raster,
-        den: den,
-        rsel: rsel,
-        yscroll: yscroll,
-        bad: bad,
-        rising: rising,
-        ba: ba,
-    };
     let orders = Orders {
         cycle: cycle,
         graphics: rowed.graphics,
@@ -726,8 +715,8 @@ pub fn turn_dark(
     let bad = timing::bad_line(swept.line, yscroll, begun.latch);
     let border = border_dark(border0, cycle, raster, den, csel);
     let phased = sprites_dark(sprites0, cycle, raster, my, enable, yexp);
-    let ba = timing::ba_output(bad, cycle);
-    let asked = arbitration::request(ba, phased.dma, cycle);
+    let beam = beam0.turn(cycle, raster, den, rsel, yscroll, bad);
+    let asked = arbitration::request(beam.ba, phased.dma, cycle);
     let bus = clocked.arbitrate(asked);
     let k = schedule::slot_sprite(cycle);
     let sprite = phased.at(k);
@@ -737,20 +726,9 @@ pub fn turn_dark(
     let low = laws::pick_bool(after, bus.aeclow, bus0.aeclow);
     let pointing = schedule::pointer_time(cycle);
     let fetching = schedule::data_time(cycle);
-    let rising = bad & !beam0.bad;
-    let rowed = rows_dark(rows0, cycle, bad, rising, wraps);
+    let rowed = rows_dark(rows0, cycle, bad, beam.rising, wraps);
     let rows = rowed.rows;
     let pending = access::next_pending(rowed.fetches & !bus.aeclow, rows.vmli, earlier);
-    let beam = Beam {
-        cycle: cycle,
-        raster: raster,
-        den: den,
-        rsel: rsel,
-        yscroll: yscroll,
-        bad: bad,
-        rising: rising,
-        ba: ba,
-    };
     let orders = Orders {
         cycle: cycle,
         graphics: rowed.graphics,

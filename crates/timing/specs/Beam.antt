@@ -28,3 +28,8 @@ nextLine raster = cond (ltb raster lastLine) (raster + 1) raster
 -- 01, power-up: the state before the first tick of a frame
 unfoldable pub fresh : Beam
 fresh = record { cycle = lastCycle; raster = lastLine; den = false; rsel = false; yscroll = 0; bad = false; rising = false; ba = true }
+
+-- 01, tick 1 to 3: the cycle and the line, the control bits as latched, the live bad line with its rise, and the BA output
+abbrev pub beamTurned : Beam → ℕ → ℕ → Bool → Bool → ℕ → Bool → Beam
+beamTurned b cycle raster den rsel yscroll bad =
+    record { cycle = cycle; raster = raster; den = den; rsel = rsel; yscroll = yscroll; bad = bad; rising = bad && not (b .bad); ba = baOutput bad cycle }

@@ -1,7 +1,7 @@
 // The beam: cycle and raster line, the bad line condition, and the BA output that a bad line asks for.
 ghost use mathlib.Core.Path.{_≡_};
 ghost use mathlib.Core.Bool.{Bool};
-ghost use Rattle.timing.specs.Beam.{badLine, baOutput, nextCycle, atLastLine, nextLine, fresh};
+ghost use Rattle.timing.specs.Beam.{badLine, baOutput, nextCycle, atLastLine, nextLine, fresh, beamTurned};
 
 pub struct Beam {
     pub cycle: u16,
@@ -63,5 +63,28 @@ impl Beam {
             rising: false,
             ba: true,
         }
+    }
+
+    // The beam after a tick: where it is, the control bits that the tick found, the bad line and its rise, and BA.
+    pub fn turn(
+        mut self,
+        cycle: u16,
+        raster: u16,
+        den: bool,
+        rsel: bool,
+        yscroll: u8,
+        bad: bool,
+    ) -> Self
+        ensures { λ r. ⌜ r ≡ beamTurned self cycle raster den rsel yscroll bad ⌝ }
+    {
+        self.cycle = cycle;
+        self.raster = raster;
+        self.den = den;
+        self.rsel = rsel;
+        self.yscroll = yscroll;
+        self.rising = bad & !self.bad;
+        self.bad = bad;
+        self.ba = ba_output(bad, cycle);
+        self
     }
 }

@@ -1,4 +1,6 @@
 use Rattle.arbitration.specs.Bus.{clockAfter}
+use Prim.Native.Nat.{_*_}
+use native.Mathlib.Omega.{arith}
 use mir.Facts.{toZ-ofZ}
 use borrow.Author.Needs.{needs}
 use Rattle.arbitration.proofs.Counting.{some-on, some-on-is}
@@ -17,13 +19,13 @@ cast-result c = search needs
 add-result : tie.Need-add-result
 add-result c =
     let start = c .before in
-    rw (c .wide .ensures, toZ-ofZ (start .fits .clock)) (some-on (start .args .clock) (start .args .k) (start .pre) (start .fits .k))
+    rw (c .wide .ensures, toZ-ofZ (start .fits .clock)) (some-on (start .args .clock) (start .args .k * 2) (start .pre) (omega (arith, start .fits .k .fits)))
 
 returns : tie.Need-returns
 unfolding clockAfter
 returns c =
     let start = c .before in
-    rw (c .wide .ensures, toZ-ofZ (start .fits .clock)) (some-on-is (start .args .clock) (start .args .k) (start .pre) (start .fits .k))
+    rw (c .wide .ensures, toZ-ofZ (start .fits .clock)) (some-on-is (start .args .clock) (start .args .k * 2) (start .pre) (omega (arith, start .fits .k .fits)))
 
 pub clock-after-spec : {M : Type 1} → statement M
 clock-after-spec = tie.close (tie.spec wide-requires mul-result cast-result add-result returns)

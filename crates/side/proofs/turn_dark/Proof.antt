@@ -1,3 +1,4 @@
+use mathlib.Core.Path.{refl}
 use Rattle.schedule.proofs.Laws.{slot-small}
 use Rattle.side.specs.Turn.{controls}
 use Rattle.side.proofs.Glue.{turn-glue}
@@ -24,8 +25,8 @@ border-dark-requires c κs = (rw (c .before .before .before .before .before .nex
 sprites-dark-requires : tie.Need-sprites-dark-requires
 sprites-dark-requires c κs = (rw (c .before .before .before .before .before .before .next-cycle .ensures) (small _), rw (c .before .before .before .before .before .before .next-cycle .ensures) (c .before .before .before .before .before .before .before .before .before .before .before .before .before .before .before .pre .1))
 
-ba-output-requires : tie.Need-ba-output-requires
-ba-output-requires c κs = search needs
+turn-requires : tie.Need-turn-requires
+turn-requires c κs = search needs
 
 request-requires : tie.Need-request-requires
 request-requires c κs = search needs
@@ -58,35 +59,37 @@ data-time-requires : tie.Need-data-time-requires
 data-time-requires c κs = search needs
 
 rows-dark-requires : tie.Need-rows-dark-requires
-rows-dark-requires c κs = rw (c .before .before .before .before .before .before .before .before .before .before .before .before .before .before .before .before .before .before .before .next-cycle .ensures) (small _)
+rows-dark-requires c κs = rw (c .before .before .before .before .before .before .before .before .before .before .before .before .before .before .before .before .before .before .next-cycle .ensures) (small _)
 
 next-pending-requires : tie.Need-next-pending-requires
 next-pending-requires c κs = search needs
 
 returns : tie.Need-returns
 returns c =
-    let start = c .before .before .before .before .before .before .before .before .before .before .before .before .before .before .before .before .before .before .before .before .before .before .before .before .before .before .before .before .before .before .before .before .before .before .before .before .args in
+    let start = c .before .before .before .before .before .before .before .before .before .before .before .before .before .before .before .before .before .before .before .before .before .before .before .before .before .before .before .before .before .before .before .before .before .before .before .args in
     let g = controls (start .den) (start .rsel) (start .yscroll) (start .csel) (start .compare) (start .my) (start .enable) (start .yexp) in
-    turn-glue g (start .side)
-    (c .before .before .before .before .before .before .before .before .before .before .before .before .before .before .before .before .before .before .before .before .before .before .before .before .before .before .before .before .clocked .ensures)
-    (c .before .before .before .before .before .before .before .before .before .before .before .before .before .before .before .before .before .before .before .before .before .before .before .before .before .before .before .next-cycle .ensures)
-    (c .before .before .before .before .before .before .before .before .before .before .before .before .before .before .before .before .before .before .before .before .before .before .before .before .before .before .line-turn .ensures)
-    (c .before .before .before .before .before .before .before .before .before .before .before .before .before .before .before .before .before .before .before .before .before .before .bad-line .ensures)
-    (c .before .before .before .before .before .before .before .before .before .before .before .before .before .before .before .before .before .before .before .before .before .border-dark .ensures)
-    (c .before .before .before .before .before .before .before .before .before .before .before .before .before .before .before .before .before .before .before .before .sprites-dark .ensures)
-    (c .before .before .before .before .before .before .before .before .before .before .before .before .before .before .before .before .before .before .before .ba-output .ensures)
-    (c .before .before .before .before .before .before .before .before .before .before .before .before .before .before .before .before .before .before .request .ensures)
-    (c .before .before .before .before .before .before .before .before .before .before .before .before .before .before .before .before .before .arbitrate .ensures)
-    (c .before .before .before .before .before .before .before .before .before .before .before .before .before .before .before .before .slot-sprite .ensures)
-    (c .before .before .before .before .before .before .before .before .before .before .before .before .before .before .before .at .ensures)
-    (c .before .before .before .before .before .before .before .before .before .before .before .before .before .before .has-bit .ensures)
-    (c .before .before .before .before .before .before .before .before .before .before .before .before .before .sprites-slot .ensures)
-    (c .before .before .before .before .before .before .before .before .before .before .before .before .slot-after-bus .ensures)
-    (c .before .before .before .before .before .before .before .before .before .before .before .pick-bool .ensures)
-    (c .before .before .before .before .before .before .before .before .before .before .pointer-time .ensures)
-    (c .before .before .before .before .before .before .before .before .before .data-time .ensures)
-    (c .before .before .before .before .before .before .before .rows-dark .ensures)
-    (c .before .before .before .next-pending .ensures)
+    let beam = c .before .before .before .before .before .before .before .before .before .before .before .before .before .before .before .before .before .before .turn .ensures in
+    rw beam
+    (turn-glue g (start .side)
+    (c .before .before .before .before .before .before .before .before .before .before .before .before .before .before .before .before .before .before .before .before .before .before .before .before .before .before .before .clocked .ensures)
+    (c .before .before .before .before .before .before .before .before .before .before .before .before .before .before .before .before .before .before .before .before .before .before .before .before .before .before .next-cycle .ensures)
+    (c .before .before .before .before .before .before .before .before .before .before .before .before .before .before .before .before .before .before .before .before .before .before .before .before .before .line-turn .ensures)
+    (c .before .before .before .before .before .before .before .before .before .before .before .before .before .before .before .before .before .before .before .before .before .bad-line .ensures)
+    (c .before .before .before .before .before .before .before .before .before .before .before .before .before .before .before .before .before .before .before .before .border-dark .ensures)
+    (c .before .before .before .before .before .before .before .before .before .before .before .before .before .before .before .before .before .before .before .sprites-dark .ensures)
+    refl
+    (rw beam at (c .before .before .before .before .before .before .before .before .before .before .before .before .before .before .before .before .before .request .ensures))
+    (c .before .before .before .before .before .before .before .before .before .before .before .before .before .before .before .before .arbitrate .ensures)
+    (c .before .before .before .before .before .before .before .before .before .before .before .before .before .before .before .slot-sprite .ensures)
+    (c .before .before .before .before .before .before .before .before .before .before .before .before .before .before .at .ensures)
+    (c .before .before .before .before .before .before .before .before .before .before .before .before .before .has-bit .ensures)
+    (c .before .before .before .before .before .before .before .before .before .before .before .before .sprites-slot .ensures)
+    (c .before .before .before .before .before .before .before .before .before .before .before .slot-after-bus .ensures)
+    (c .before .before .before .before .before .before .before .before .before .before .pick-bool .ensures)
+    (c .before .before .before .before .before .before .before .before .before .pointer-time .ensures)
+    (c .before .before .before .before .before .before .before .before .data-time .ensures)
+    (rw beam at (c .before .before .before .before .before .before .before .rows-dark .ensures))
+    (c .before .before .before .next-pending .ensures))
 
 pub turn-dark-spec : {M : Type 1} → statement M
 turn-dark-spec =
@@ -98,7 +101,7 @@ turn-dark-spec =
     bad-line-requires
     border-dark-requires
     sprites-dark-requires
-    ba-output-requires
+    turn-requires
     request-requires
     arbitrate-requires
     slot-sprite-requires

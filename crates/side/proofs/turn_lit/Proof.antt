@@ -1,3 +1,4 @@
+use mathlib.Core.Path.{refl}
 use Rattle.schedule.proofs.Parts.{lit}
 use Rattle.side.specs.Turn.{controls}
 use Rattle.side.proofs.Parts.{lit-glue}
@@ -20,8 +21,8 @@ border-lit-requires c κs = rw (c .before .next-cycle .ensures) (c .before .befo
 sprites-lit-requires : tie.Need-sprites-lit-requires
 sprites-lit-requires c κs = rw (c .before .before .next-cycle .ensures) (c .before .before .before .before .before .before .before .before .before .before .before .pre .1)
 
-ba-output-requires : tie.Need-ba-output-requires
-ba-output-requires c κs = search needs
+turn-requires : tie.Need-turn-requires
+turn-requires c κs = search needs
 
 asked-lit-requires : tie.Need-asked-lit-requires
 asked-lit-requires c κs = rw (c .before .before .before .before .next-cycle .ensures) (c .before .before .before .before .before .before .before .before .before .before .before .before .before .pre .1)
@@ -36,29 +37,31 @@ has-bit-requires : tie.Need-has-bit-requires
 has-bit-requires c κs = search needs
 
 rows-lit-requires : tie.Need-rows-lit-requires
-rows-lit-requires c κs = rw (c .before .before .before .before .before .before .before .before .before .next-cycle .ensures) (c .before .before .before .before .before .before .before .before .before .before .before .before .before .before .before .before .before .before .pre .1)
+rows-lit-requires c κs = rw (c .before .before .before .before .before .before .before .before .next-cycle .ensures) (c .before .before .before .before .before .before .before .before .before .before .before .before .before .before .before .before .before .pre .1)
 
 next-pending-requires : tie.Need-next-pending-requires
 next-pending-requires c κs = search needs
 
 returns : tie.Need-returns
 returns c =
-    let start = c .before .before .before .before .before .before .before .before .before .before .before .before .before .before .before .before .before .before .before .before .before .before .before .before .before .before in
+    let start = c .before .before .before .before .before .before .before .before .before .before .before .before .before .before .before .before .before .before .before .before .before .before .before .before .before in
     let g = controls (start .args .den) (start .args .rsel) (start .args .yscroll) (start .args .csel) (start .args .compare) (start .args .my) (start .args .enable) (start .args .yexp) in
-    lit-glue g (start .args .side)
-    (lit _ (rw (c .before .before .before .before .before .before .before .before .before .before .before .before .before .before .before .before .before .next-cycle .ensures) (start .pre .1)))
-    (c .before .before .before .before .before .before .before .before .before .before .before .before .before .before .before .before .before .before .clocked .ensures)
-    (c .before .before .before .before .before .before .before .before .before .before .before .before .before .before .before .before .before .next-cycle .ensures)
-    (c .before .before .before .before .before .before .before .before .before .before .before .before .before .before .before .before .bad-line .ensures)
-    (c .before .before .before .before .before .before .before .before .before .before .before .before .before .before .before .border-lit .ensures)
-    (c .before .before .before .before .before .before .before .before .before .before .before .before .before .before .sprites-lit .ensures)
-    (c .before .before .before .before .before .before .before .before .before .before .before .before .before .ba-output .ensures)
-    (c .before .before .before .before .before .before .before .before .before .before .before .before .asked-lit .ensures)
-    (c .before .before .before .before .before .before .before .before .before .before .before .arbitrate .ensures)
-    (c .before .before .before .before .before .before .before .before .before .before .at .ensures)
-    (c .before .before .before .before .before .before .before .before .before .has-bit .ensures)
-    (c .before .before .before .before .before .before .before .rows-lit .ensures)
-    (c .before .before .before .next-pending .ensures)
+    let beam = c .before .before .before .before .before .before .before .before .before .before .before .before .turn .ensures in
+    rw beam
+    (lit-glue g (start .args .side)
+    (lit _ (rw (c .before .before .before .before .before .before .before .before .before .before .before .before .before .before .before .before .next-cycle .ensures) (start .pre .1)))
+    (c .before .before .before .before .before .before .before .before .before .before .before .before .before .before .before .before .before .clocked .ensures)
+    (c .before .before .before .before .before .before .before .before .before .before .before .before .before .before .before .before .next-cycle .ensures)
+    (c .before .before .before .before .before .before .before .before .before .before .before .before .before .before .before .bad-line .ensures)
+    (c .before .before .before .before .before .before .before .before .before .before .before .before .before .before .border-lit .ensures)
+    (c .before .before .before .before .before .before .before .before .before .before .before .before .before .sprites-lit .ensures)
+    refl
+    (rw beam at (c .before .before .before .before .before .before .before .before .before .before .before .asked-lit .ensures))
+    (c .before .before .before .before .before .before .before .before .before .before .arbitrate .ensures)
+    (c .before .before .before .before .before .before .before .before .before .at .ensures)
+    (c .before .before .before .before .before .before .before .before .has-bit .ensures)
+    (rw beam at (c .before .before .before .before .before .before .before .rows-lit .ensures))
+    (c .before .before .before .next-pending .ensures))
 
 pub turn-lit-spec : {M : Type 1} → statement M
 turn-lit-spec =
@@ -69,7 +72,7 @@ turn-lit-spec =
     bad-line-requires
     border-lit-requires
     sprites-lit-requires
-    ba-output-requires
+    turn-requires
     asked-lit-requires
     arbitrate-requires
     at-requires
