@@ -1,5 +1,5 @@
 -- The character latch, and the merge after a forced bad line (fetch.rs; departs, DIFFERENCES 11).
-use Prim.Native.Nat.{ℕ, _+_, _-_, _%_}
+use Prim.Native.Nat.{ℕ, _-_, _%_}
 use mathlib.Core.Bool.{Bool, not, cond}
 use mathlib.Core.List.{List}
 use lib.Dec.{eqb, ltb, leb}

@@ -1,12 +1,12 @@
 -- A number's text reads back as the number. Assumes nothing.
 use Prim.Native.Nat.{ℕ, _+_, _*_, _-_, _/_, _%_, _≤_, _<_}
-use mathlib.Core.Path.{_≡_, refl, sym, _∙_, ap}
+use mathlib.Core.Path.{_≡_, refl, _∙_, ap}
 use mathlib.Core.Bool.{Bool, true, false, cond}
 use mathlib.Core.List.{List, [], _∷_}
 use native.Mathlib.Omega.{arith}
 use lib.Dec.{ltb}
 use borrow.Author.Tests.{lt-ltb, le-ltb, ltb-true, ltb-false}
-use Rattle.line.specs.Text.{glyphOf, textOf}
+use Rattle.line.specs.Text.{textOf}
 use Rattle.line.proofs.Join.{text1, text2, text3, text4, text5}
 
 -- what a reader makes of digits, up to the first byte below them

@@ -1,5 +1,5 @@
 -- Eight sprites have DMA on at most. Assumes nothing.
-use Prim.Native.Nat.{ℕ, zero, suc, _+_, _≤_}
+use Prim.Native.Nat.{ℕ, zero, suc, _≤_}
 use mathlib.Core.Bool.{Bool, true, false, cond}
 use native.Mathlib.Omega.{arith}
 use Rattle.laws.specs.Bits.{onesBelow, hasBit}

@@ -4,10 +4,10 @@ use mathlib.Core.Bool.{Bool, true, false, _&&_, _||_, cond}
 use mathlib.Core.List.{List}
 use Prim.Native.Nat.{ℕ, _+_, _-_, _*_, _/_, _%_, _≤_, _<_}
 use native.Mathlib.Omega.{arith}
-use lib.Dec.{eqb, leb, ltb}
+use lib.Dec.{eqb, ltb}
 use lib.ListN.{length, getD}
 use lib.Seq.{getD-take, getD-drop}
-use borrow.Author.Tests.{eqb-true, ltb-false, eq-eqb, le-ltb}
+use borrow.Author.Tests.{eqb-true, ltb-false, le-ltb}
 use Rattle.laws.proofs.Choice.{passed}
 use Rattle.memory.specs.Memory.{Lent, inRom, readAt, blockRefusal, blockOf}
 use Rattle.memory.proofs.Page.{page, from-1000}

@@ -1,12 +1,12 @@
 -- A graphics access that merges nothing leaves its own byte and character, and the next takes their place. Assumes nothing.
 use Prim.Native.Nat.{ℕ}
 use mathlib.Core.Path.{_≡_, refl, sym, _∙_}
-use mathlib.Core.Bool.{Bool, true, false, not, _||_, cond}
+use mathlib.Core.Bool.{Bool, true, false, not, _||_}
 use mathlib.Core.List.{List}
 use lib.IntN.{ℤ}
 use Rattle.laws.proofs.Choice.{picks}
 use Rattle.memory.specs.Memory.{readAt}
-use Rattle.access.specs.Merge.{Merging, merging}
+use Rattle.access.specs.Merge.{merging}
 use Rattle.access.specs.Graphics.{accessAddress}
 use Rattle.access.proofs.Laws.{none-filled, plainChar, none-merged}
 use Rattle.side.specs.declared.Orders.{Orders}

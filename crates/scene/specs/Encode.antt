@@ -20,7 +20,7 @@ use Rattle.side.specs.declared.Side.{Side}
 use Rattle.picture.specs.declared.Pen.{Pen}
 use Rattle.sequencer.specs.declared.Picture.{Picture}
 use Rattle.sequencer.specs.declared.Chip.{Chip}
-use Rattle.scene.specs.Numbers.{longBytes, bits, bitBytes, countByte, flagByte, placeByte}
+use Rattle.scene.specs.Numbers.{bits, bitBytes, countByte, flagByte, placeByte}
 
 -- head: 'N' 'P' 'S' and the version; then timing
 abbrev pub headBytes : Beam → List ℕ

@@ -1,6 +1,6 @@
 -- Fields as bytes: numbers low byte first, signed ones in two's complement, flags 0 or 1, no pending place 255.
 use Prim.Native.Nat.{ℕ, _+_, _*_, _/_, _%_}
-use mathlib.Core.Bool.{Bool, true, false, cond}
+use mathlib.Core.Bool.{Bool, cond}
 use mathlib.Core.List.{List, [], _∷_}
 use lib.Dec.{eqb}
 use lib.IntN.{ℤ}

@@ -1,7 +1,7 @@
 -- The timing diagram of a line (Bauer 3.6.3) as one table: each event and the cycles in which it happens.
 -- The rules of the other crates name these events, never a cycle's number.
 use Prim.Native.Nat.{ℕ, zero, suc}
-use mathlib.Core.Bool.{Bool, true, false, _&&_, _||_, cond}
+use mathlib.Core.Bool.{Bool, false, _&&_, _||_, cond}
 use lib.Dec.{eqb, leb}
 use Rattle.schedule.specs.Kind.{lastCycle, firstPointer, pointerSlot, dataSlot}
 

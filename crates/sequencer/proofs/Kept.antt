@@ -20,7 +20,7 @@ use Rattle.side.proofs.Kept.{side-kept, side-same, fresh-fine}
 use Rattle.picture.proofs.Laws.{forced-kept, fresh-forced}
 use Rattle.sequencer.specs.declared.Chip.{Chip}
 use Rattle.sequencer.specs.declared.Answer.{Answer}
-use Rattle.sequencer.specs.Chip.{Host, World, worldOf, chipOf, timed, powered}
+use Rattle.sequencer.specs.Chip.{Host, World, worldOf, chipOf, powered}
 use Rattle.sequencer.specs.Accept.{aecFine, clockFine, tickable, accepted}
 use Rattle.sequencer.specs.Tick.{tickWorld, tickOf}
 use Rattle.sequencer.specs.Calls.{registerWritten, expandAt, comparesBy, controlsPlaced, displayPlaced, lateAt, lateTaken}

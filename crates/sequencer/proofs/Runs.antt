@@ -1,7 +1,7 @@
 -- A run of ticks: what it holds from tick to tick, and how it ends. Assumes nothing.
 use Prim.Native.Nat.{ℕ, zero, suc, _+_, _-_, _<_, _≤_}
-use mathlib.Core.Path.{_≡_, refl, sym, _∙_, ap}
-use mathlib.Core.Bool.{Bool, true, false}
+use mathlib.Core.Path.{_≡_, refl, sym, _∙_}
+use mathlib.Core.Bool.{true, false}
 use native.Mathlib.Omega.{arith}
 use native.Mathlib.Numerals.{add-one}
 use native.Mathlib.Nat.{zero-add, suc-add}
@@ -16,7 +16,7 @@ use Rattle.sequencer.specs.declared.Chip.{Chip}
 use Rattle.sequencer.specs.declared.Answer.{Answer}
 use Rattle.sequencer.specs.Chip.{Host, World, chipOf}
 use Rattle.sequencer.specs.Accept.{accepted, tickable}
-use Rattle.sequencer.specs.Tick.{Ready, Held, tickWorld, tickOf, lentRefusal, tickRefusal, answer, ticked, ticksFrom}
+use Rattle.sequencer.specs.Tick.{Ready, Held, tickWorld, lentRefusal, tickRefusal, answer, ticked, ticksFrom}
 use Rattle.sequencer.proofs.Accepted.{accepted-clock, accepted-forced, clock-fine-range, tickable-can}
 use Rattle.sequencer.proofs.Kept.{world-kept}
 

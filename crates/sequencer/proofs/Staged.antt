@@ -1,5 +1,5 @@
 -- A run in parts: what a part holds from tick to tick, how it ends, and how a run goes on by one. Assumes nothing.
-use Prim.Native.Nat.{ℕ, zero, suc, _+_, _-_, _*_, _<_, _≤_}
+use Prim.Native.Nat.{ℕ, zero, suc, _+_, _-_, _<_, _≤_}
 use mathlib.Core.Path.{_≡_, refl, sym, _∙_, ap}
 use mathlib.Core.Bool.{Bool, true, false, true≢false}
 use native.Mathlib.Omega.{arith}
@@ -15,7 +15,7 @@ use Rattle.side.proofs.Kept.{side-clock}
 use Rattle.arbitration.specs.Bus.{clockOn}
 use Rattle.arbitration.proofs.Kept.{clock-on}
 use Rattle.sequencer.specs.declared.Chip.{Chip}
-use Rattle.sequencer.specs.Chip.{Host, World, chipOf, timed}
+use Rattle.sequencer.specs.Chip.{Host, World, chipOf}
 use Rattle.sequencer.specs.Accept.{tickable}
 use Rattle.sequencer.specs.Tick.{Held, tickWorld, answer, ticksFrom}
 use Rattle.sequencer.specs.Parts.{Roomy, Part}

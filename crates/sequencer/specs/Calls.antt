@@ -1,12 +1,9 @@
 -- Every other public call on a chip.
 use Prim.Native.Nat.{ℕ}
 use mathlib.Core.Bool.{Bool, cond}
-use mathlib.Core.List.{List}
 use lib.Dec.{ltb}
 use lib.IntN.{ℤ}
 use lib.ListN.{set}
-use Rattle.registers.specs.declared.Irq.{Irq}
-use Rattle.registers.specs.declared.Registers.{Registers}
 use Rattle.registers.specs.Control.{RSEL}
 use Rattle.registers.specs.Registers.{written, controlled, expanded}
 use Rattle.registers.specs.Read.{readOf}

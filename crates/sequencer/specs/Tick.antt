@@ -1,8 +1,7 @@
 -- The tick: its refusals, its definition, and a run of ticks.
 use Prim.Native.Nat.{ℕ, zero, suc}
 use mathlib.Core.Path.{_≡_}
-use mathlib.Core.Bool.{Bool, true, cond}
-use mathlib.Core.List.{List}
+use mathlib.Core.Bool.{true, cond}
 use lib.Dec.{eqb}
 use lib.ListN.{length}
 use Rattle.laws.specs.Clock.{inRange, canTick}

@@ -1,6 +1,6 @@
 -- The blocks, one after the other, are the chart of the file: what is written and what is still to come are together always the same. Assumes nothing.
-use Prim.Native.Nat.{ℕ, zero, suc, _+_, _-_, _≤_, _<_}
-use mathlib.Core.Path.{_≡_, refl, sym, _∙_, ap, subst}
+use Prim.Native.Nat.{ℕ, zero, suc, _+_, _-_, _<_}
+use mathlib.Core.Path.{_≡_, refl, sym, _∙_, ap}
 use mathlib.Core.Bool.{Bool, true, false, cond}
 use mathlib.Core.List.{List, [], _∷_, _++_}
 use native.Mathlib.Omega.{arith}
@@ -10,9 +10,8 @@ use Rattle.script.specs.declared.Item.{Item}
 use Rattle.script.specs.declared.Item.the-variants as item
 use Rattle.script.specs.declared.Step.{Step}
 use Rattle.script.specs.declared.Cursor.{Cursor}
-use Rattle.script.specs.File.{runOf}
 use Rattle.script.specs.Cursor.{startOf, nextOf, isLast, readFrom}
-use Rattle.script.proofs.Whole.{Onward, goes-on, whole}
+use Rattle.script.proofs.Whole.{goes-on, whole}
 use Rattle.run.specs.declared.Done.{Done}
 use Rattle.run.specs.Run.{doneOf}
 use Rattle.line.specs.Text.{Written}

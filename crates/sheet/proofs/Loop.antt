@@ -5,12 +5,11 @@ use mathlib.Core.Bool.{Bool, true, false, _&&_, cond}
 use mathlib.Core.List.{List, [], _++_}
 use native.Mathlib.Omega.{arith}
 use lib.Dec.{leb}
-use lib.ListN.{length}
 use borrow.Author.Tests.{leb-true}
 use Rattle.line.specs.Text.{Written}
 use Rattle.line.proofs.Join.{on}
 use Rattle.sheet.specs.declared.Run.{Run}
-use Rattle.sheet.specs.Sheet.{Store, placed, saidIn, runIn, storeIn}
+use Rattle.sheet.specs.Sheet.{Store, saidIn, runIn, storeIn}
 use Rattle.sheet.specs.Fill.{Sheet, sheet, oneTurn, goes, turns, emptied, Filled, ahead}
 use Rattle.sheet.proofs.Glue.{nothing}
 use Rattle.sheet.proofs.Less.{turn-less}

@@ -1,15 +1,14 @@
 -- A tick that only counts, and any number of them: counted first and ticked once is ticked one by one. Assumes nothing.
-use Prim.Native.Nat.{ℕ, zero, suc, _+_, _%_, _<_, _≤_}
+use Prim.Native.Nat.{ℕ, suc, _+_, _%_, _<_, _≤_}
 use mathlib.Core.Path.{_≡_, refl, sym, _∙_}
-use mathlib.Core.Bool.{Bool, true, false, not, _&&_, _||_, cond}
+use mathlib.Core.Bool.{Bool, true, false, not, _&&_, cond}
 use native.Mathlib.Omega.{arith}
-use lib.Dec.{eqb, leb}
+use lib.Dec.{eqb}
 use lib.IntN.{ℤ, pos}
 use borrow.Author.Tests.{le-leb, not-true}
 use Rattle.laws.specs.Bits.{hasBit}
 use Rattle.laws.specs.Clock.{inRange}
 use Rattle.laws.proofs.Choice.{left, right}
-use Rattle.schedule.specs.Diagram.{happens, graphicsAccess}
 use Rattle.schedule.proofs.Parts.{Mid, mid, lit, past}
 use Rattle.timing.specs.Beam.{nextCycle, badLine}
 use Rattle.timing.proofs.Kept.{cycle-next, ba-high}

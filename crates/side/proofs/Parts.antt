@@ -1,13 +1,12 @@
 -- The steps of a cycle with a graphics access, and of one without, are the definition's: what does not happen there is left out. Assumes nothing.
 use Prim.Native.Nat.{ℕ, _<_}
-use mathlib.Core.Path.{_≡_, refl, sym}
+use mathlib.Core.Path.{_≡_, refl}
 use mathlib.Core.Bool.{Bool, true, false, not, _&&_, _||_}
 use mathlib.Core.List.{List}
 use native.Mathlib.Omega.{arith}
 use lib.Dec.{eqb}
 use borrow.Author.Tests.{not-true}
 use Rattle.laws.specs.Bits.{hasBit}
-use Rattle.laws.specs.Pick.{pick}
 use Rattle.laws.proofs.Choice.{picks, and-true, and-false, or-false, never-both}
 use Rattle.schedule.specs.Diagram.{happens, graphicsAccess, accessEnds}
 use Rattle.schedule.proofs.Parts.{Lit, Past, Mid, Dark, Later, Between, Calm, Still}

@@ -1,6 +1,6 @@
 -- The beginning of a line and the end of a frame (01, tick 3 and 4).
 use Prim.Native.Nat.{ℕ}
-use mathlib.Core.Bool.{Bool, true, false, not, _&&_, _||_, cond}
+use mathlib.Core.Bool.{Bool, false, not, _&&_, _||_, cond}
 use lib.Dec.{eqb}
 use Rattle.laws.specs.Pick.{pick}
 use Rattle.registers.specs.declared.Irq.{Irq}

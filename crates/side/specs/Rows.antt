@@ -1,6 +1,6 @@
 -- VC, VCBASE, RC, VMLI and the display state (Bauer 3.7.2).
 use Prim.Native.Nat.{ℕ, _+_, _%_}
-use mathlib.Core.Bool.{Bool, true, false, not, _&&_, _||_, cond}
+use mathlib.Core.Bool.{Bool, false, not, _&&_, _||_, cond}
 use lib.Dec.{eqb}
 use Rattle.laws.specs.Pick.{pick}
 use Rattle.schedule.specs.Diagram.{happens, vcLoad, accessChosen, accessEnds, graphicsAccess, characterAccess, rowEnds}

@@ -1,6 +1,6 @@
 -- One tick of the timing side: each part has its step's number of 01's list, and stands after the parts that it reads. No picture value is in sight.
 use Prim.Native.Nat.{ℕ}
-use mathlib.Core.Bool.{Bool, true, false, not, _&&_, _||_}
+use mathlib.Core.Bool.{Bool, false, not, _&&_, _||_}
 use mathlib.Core.List.{List}
 use lib.Dec.{eqb}
 use Rattle.laws.specs.Bits.{hasBit}

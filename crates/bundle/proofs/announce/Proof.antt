@@ -3,11 +3,6 @@ use lib.Seq.{length-take-le}
 use borrow.Author.Needs.{needs}
 use Rattle.bundle.proofs.announce.Statement.{statement}
 use Rattle.bundle.proofs.announce.Tie as tie
-use Rattle.bundle.proofs.announce.Reads as reads
-use Rattle.bundle.proofs.announce.Lts as lts
-use Rattle.bundle.proofs.head.Reads as head-reads
-use Rattle.io.proofs.write_all.Reads as write-all-reads
-use Rattle.line.proofs.put.Reads as put-reads
 
 -- src/main.rt:17:20
 head-requires : tie.Need-head-requires

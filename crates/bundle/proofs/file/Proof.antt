@@ -3,11 +3,6 @@ use lib.Seq.{length-take-le}
 use borrow.Author.Needs.{needs}
 use Rattle.bundle.proofs.file.Statement.{statement}
 use Rattle.bundle.proofs.file.Tie as tie
-use Rattle.bundle.proofs.file.Reads as reads
-use Rattle.bundle.proofs.file.Lts as lts
-use Rattle.bundle.proofs.announce.Reads as announce-reads
-use Rattle.bundle.proofs.one.Reads as one-reads
-use Rattle.io.proofs.read_full.Reads as read-full-reads
 
 -- src/main.rt:36:44
 slice-relend-prefix-read-full : tie.Need-slice-relend-prefix-read-full

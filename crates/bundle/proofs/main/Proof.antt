@@ -5,10 +5,6 @@ use lib.ListN.{length}
 use borrow.Author.Needs.{needs}
 use Rattle.bundle.proofs.main.Statement.{statement}
 use Rattle.bundle.proofs.main.Tie as tie
-use Rattle.bundle.proofs.main.Reads as reads
-use Rattle.bundle.proofs.main.Lts as lts
-use Rattle.bundle.proofs.next.Reads as next-reads
-use Rattle.io.proofs.large_buffer.Reads as large-buffer-reads
 
 abbrev Inv-loop : tie.InvT-loop
 Inv-loop space₀ number₀ space number = 65536 ≡ length space

@@ -1,6 +1,5 @@
 -- The measure is what is left of the steps; nothing has to hold from step to step.
 use Prim.Native.Nat.{_-_}
-use native.Mathlib.Omega.{arith}
 use borrow.Author.Needs.{needs}
 use Rattle.pace.proofs.turn.Statement.{statement}
 use Rattle.pace.proofs.turn.Tie as tie

@@ -1,7 +1,7 @@
 -- The invariant: the entries below k are read.
 use mathlib.Core.Path.{_≡_, refl, sym, ap, _∙_}
 use mathlib.Core.List.{List, [], _∷_, _++_}
-use Prim.Native.Nat.{ℕ, _+_, _*_, _-_, _<_, _≤_}
+use Prim.Native.Nat.{ℕ, _+_, _-_, _≤_}
 use native.Mathlib.Nat.{le-antisymm}
 use native.Mathlib.Numerals.{add-one}
 use native.Mathlib.Omega.{arith}
@@ -9,7 +9,6 @@ use lib.ListN.{length, set, take, length-set}
 use lib.Seq.{take-suc-set, take-all}
 use denote.Ref.{now}
 use borrow.Author.Needs.{needs}
-use Rattle.scene.specs.Numbers.{wordAt}
 use Rattle.scene.specs.Decode.{entries, matrixAt}
 use Rattle.scene.proofs.matrix_at.Statement.{statement}
 use Rattle.scene.proofs.matrix_at.Tie as tie

@@ -1,4 +1,3 @@
-use mathlib.Core.Path.{refl}
 use borrow.Author.Needs.{needs}
 use Rattle.scene.specs.Numbers.{placeByte}
 use Rattle.scene.proofs.place_byte.Statement.{statement}

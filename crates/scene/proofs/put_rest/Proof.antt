@@ -1,7 +1,5 @@
 use mathlib.Core.Path.{refl, ap, _∙_}
-use Prim.Native.Nat.{ℕ}
 use Rattle.laws.proofs.Signs.{back8}
-use Rattle.scene.specs.Numbers.{countByte}
 use Rattle.scene.specs.Encode.{restBytes}
 use Rattle.scene.proofs.Parts.{put-as}
 use borrow.Author.Needs.{needs}

@@ -1,6 +1,5 @@
-use Prim.Native.Nat.{ℕ, _+_, _-_, _/_}
+use Prim.Native.Nat.{_+_, _-_, _/_}
 use native.Mathlib.Omega.{arith}
-use mathlib.Core.Path.{sym}
 use borrow.Author.Tests.{lt-leb}
 use borrow.Author.Needs.{needs}
 use Rattle.laws.proofs.Below.{same-within}

@@ -1,7 +1,6 @@
 use mathlib.Core.Path.{ap}
 use borrow.Author.Needs.{needs}
 use Rattle.side.specs.declared.Side.{Side}
-use Rattle.sequencer.specs.declared.Core.{Core}
 use Rattle.sequencer.proofs.leap.Statement.{statement}
 use Rattle.sequencer.proofs.leap.Tie as tie
 

@@ -6,7 +6,7 @@ use borrow.Author.Needs.{needs}
 use borrow.Author.Tests.{not-true, not-false}
 use Rattle.schedule.specs.Diagram.{happens, graphicsAccess}
 use Rattle.timing.specs.Beam.{nextCycle}
-use Rattle.sequencer.specs.Chip.{host, world, chipOf}
+use Rattle.sequencer.specs.Chip.{host, world}
 use Rattle.sequencer.proofs.Kept.{accepted-fine}
 use Rattle.sequencer.proofs.Staged.{Parting, started, stopped-at, ended-at}
 use Rattle.sequencer.proofs.Skip.{ready-later, lit-later, further-by, few, place, may}

@@ -1,4 +1,3 @@
-use mathlib.Core.Path.{_∙_}
 use Rattle.schedule.proofs.Parts.{lit}
 use Rattle.side.proofs.Parts.{border-left}
 use borrow.Author.Needs.{needs}

@@ -1,4 +1,3 @@
-use mathlib.Core.Path.{_∙_}
 use Rattle.sprites.proofs.Steps.{moves, keeps}
 use borrow.Author.Needs.{needs}
 use Rattle.sprites.proofs.Sprites.fetch.Statement.{statement}

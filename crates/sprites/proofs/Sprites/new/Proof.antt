@@ -1,5 +1,4 @@
 use Rattle.sprites.specs.Sprites.{allFresh}
-use mathlib.Core.Path.{refl}
 use borrow.Author.Needs.{needs}
 use Rattle.sprites.proofs.Sprites.new.Statement.{statement}
 use Rattle.sprites.proofs.Sprites.new.Tie as tie
