@@ -13,7 +13,7 @@ use std::path::Path;
 
 /// Makes one case after another; ticks go through the 63 cycles in turn, so that each is met alike.
 pub struct Maker {
-    random: Rng,
+    pub random: Rng,
     memory: Memory,
     walker: Walker,
     turn: u64,
@@ -87,7 +87,7 @@ impl Maker {
     }
 
     /// A state for a call that takes any.
-    fn any(&mut self, cycle: u16) -> State {
+    pub fn any(&mut self, cycle: u16) -> State {
         if self.random.chance(1, 3) {
             wild_state(&mut self.random)
         } else {
@@ -148,7 +148,7 @@ fn memory(r: &mut Rng) -> Memory {
     memory
 }
 
-fn lend(memory: &Memory, output: &mut impl Write) -> io::Result<()> {
+pub fn lend(memory: &Memory, output: &mut impl Write) -> io::Result<()> {
     output.write_all(&memory.ram[..])?;
     output.write_all(&memory.rom[..])?;
     output.write_all(&memory.colour[..])

@@ -1,6 +1,7 @@
 //! The original VIC-II as judge of the port. README.md says what each command does.
 
 mod accept;
+mod ask;
 mod cases;
 mod chart;
 mod check;
@@ -32,6 +33,9 @@ const USAGE: &str = "usage:
   oracle fields                          list a scene's fields: place, size, kind, name
   oracle runs SEED COUNT DIR             make run files
   oracle chart < FILE > OUT              chart a run file with the original
+  oracle questions SEED COUNT DIR        make questions for ask, a file for each part
+  oracle sample-questions SEED OUTFILE   make the few questions that the test asks
+  oracle ask INFILE OUTFILE              answer questions with the original
   oracle check SEED COUNT                check the original on accepted states
   oracle power-up > SCENE                write the scene of a chip at power-up
   oracle pace < FILE > SCENE             work a scene through steps, for bench/run
@@ -83,6 +87,9 @@ fn run(arguments: &[&str]) -> io::Result<Option<bool>> {
             io::stdin().lock().read_to_end(&mut bytes)?;
             pace::pace(&bytes, &mut io::stdout().lock()).map(|()| true)
         }
+        ["questions", seed, count, folder] => ask::make(number(seed)?, number(count)?, folder).map(|()| true),
+        ["sample-questions", seed, output] => ask::make_sample(number(seed)?, output).map(|()| true),
+        ["ask", input, output] => ask::answer(input, output).map(|()| true),
         ["check", seed, count] => Ok(check::check(number(seed)?, number(count)?)),
         ["selftest"] => Ok(selftest::selftest()),
         _ => return Ok(None),

@@ -1,9 +1,10 @@
 //! Small checks of the oracle's own parts.
 
 use crate::accept::accepted;
+use crate::ask::{mask_at, panics};
 use crate::chart::chart;
 use crate::memory::Memory;
-use crate::replay::{answer_case, Case, BA_HIGH_AT_PHI1, LATE_BYTE, TICK};
+use crate::replay::{answer_case, Case, LATE_BYTE, TICK};
 use crate::rng::Rng;
 use crate::scene::{fields, Kind, State, SCENE};
 use crate::states::{accepted_state, wild_state};
@@ -11,7 +12,6 @@ use crate::vic::fsm::{DisplayState, GraphicsMode};
 use crate::vic::glue::Machine;
 use crate::vic::state::VicII;
 use crate::vic::timing::VicTiming;
-use std::panic;
 
 type Check = (&'static str, fn() -> bool);
 
@@ -173,6 +173,7 @@ fn faults() -> bool {
 /// Document 01, "Twelve settled by proof", asked of the original.
 fn the_twelve() -> bool {
     let mut machine = Machine::new(Memory::new());
+    let masks = [63, 54, 55].map(|cycle| mask_at(&mut machine, cycle)) == [0x1C, 0, 0x01];
     let mut tick = |change: &dyn Fn(&mut State)| {
         machine.power_up();
         let mut state = machine.state();
@@ -185,7 +186,6 @@ fn the_twelve() -> bool {
         && !VicTiming::compute_is_badline(0x2F, 7, true)
         && VicTiming::compute_is_badline(0xF7, 7, true)
         && !VicTiming::compute_is_badline(0xF8, 0, true);
-    let masks = mask_at(63) == 0x1C && mask_at(54) == 0 && mask_at(55) == 0x01;
 
     let crunched = tick(&|s| {
         s.cycle = 15;
@@ -227,39 +227,13 @@ fn the_twelve() -> bool {
         && (idle_at_58.rc, idle_at_58.displaying) == (7, false)
 }
 
-/// The request mask: the original's table is private, so each sprite is asked by itself.
-fn mask_at(cycle: u16) -> u8 {
-    let mut machine = Machine::new(Memory::new());
-    let mut mask = 0;
-    for k in 0..8 {
-        let mut state = machine.state();
-        state.cycle = cycle;
-        state.ba_output_high = true;
-        state.dma = 1 << k;
-        state.previous_dma = 1 << k;
-        let bytes = answer_case(&mut machine, &Case { call: BA_HIGH_AT_PHI1, bank: 0, arguments: [0; 4], state });
-        if bytes[1] == 0 {
-            mask |= 1 << k;
-        }
-    }
-    mask
-}
-
 /// Document 01: the request lasts from three cycles before the pointer slot to the data slot.
 fn the_mask() -> bool {
+    let mut machine = Machine::new(Memory::new());
     (0..=130).chain([0xFFFF]).all(|cycle: u16| {
         let expected = (0..8u16).filter(|n| (55..=59).any(|first| (first + 2 * n - 1) % 63 + 1 == cycle)).fold(0, |mask, n| mask | 1 << n);
-        mask_at(cycle) == expected
+        mask_at(&mut machine, cycle) == expected
     })
-}
-
-/// Whether the original stops itself here; its message is not printed.
-fn panics(act: impl FnOnce() + panic::UnwindSafe) -> bool {
-    let hook = panic::take_hook();
-    panic::set_hook(Box::new(|_| {}));
-    let stopped = panic::catch_unwind(act).is_err();
-    panic::set_hook(hook);
-    stopped
 }
 
 /// docs/DIFFERENCES.md, 13 to 15 and 17 to 22, each on its smallest input. No replay case can hold most of these: the original is

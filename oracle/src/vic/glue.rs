@@ -9,6 +9,7 @@ use crate::scene::State;
 
 /// A refusal's number in document 01.
 pub type Refusal = u8;
+pub const WRONG_LENGTH: Refusal = 1;
 pub const BANK_ABOVE_3: Refusal = 2;
 pub const NOT_ACCEPTED: Refusal = 3;
 pub const CLOCK_AT_END: Refusal = 4;
@@ -112,6 +113,11 @@ impl Machine {
         self.chip.forced_badline_c_access_clock = 0;
     }
 
+    /// The original's own power-up, with nothing put right.
+    pub fn original_power_up() -> State {
+        Self { chip: VicII::new(), memory: Memory::new() }.state()
+    }
+
     /// Chooses the arm of the original's `render_live`.
     pub fn draw(&mut self, enabled: bool) {
         self.chip.screen.set_compose_video(enabled);
@@ -142,7 +148,12 @@ impl Machine {
     }
 
     pub fn write(&mut self, address: u8, value: u8) {
-        self.chip.regs.write(u16::from(address), value, &mut self.chip.irq);
+        self.write_at(address.into(), value);
+    }
+
+    /// A register by any address.
+    pub fn write_at(&mut self, address: u16, value: u8) {
+        self.chip.regs.write(address, value, &mut self.chip.irq);
     }
 
     pub fn write_y_expand(&mut self, value: u8) {
@@ -173,20 +184,42 @@ impl Machine {
 
     /// The forced clock is the state's clock, as in a run file and in replay.
     pub fn place_display(&mut self, displaying: bool, entering: bool, accessing: bool, mode_changing: bool) -> Result<(), Refusal> {
-        let now = self.chip.current_clock;
-        if !clock_in_range(now) {
+        self.place_display_at(displaying, entering, accessing, mode_changing, self.chip.current_clock)
+    }
+
+    /// The same with any forced clock.
+    pub fn place_display_at(&mut self, displaying: bool, entering: bool, accessing: bool, mode_changing: bool, forced: i64) -> Result<(), Refusal> {
+        if !clock_in_range(forced) {
             return Err(FORCED_CLOCK_OUT_OF_RANGE);
         }
         self.chip.display_state = display(displaying);
         self.chip.display_transition = transition(entering);
         self.chip.character_access_state = access(accessing);
         self.chip.mode_changing = mode_changing;
-        self.chip.forced_badline_c_access_clock = now;
+        self.chip.forced_badline_c_access_clock = forced;
         Ok(())
     }
 
     pub fn read(&self, address: u8, light_pen_x: u8, light_pen_y: u8) -> u8 {
-        self.chip.regs.read(u16::from(address), &self.chip.irq, self.chip.timing.raster_line, light_pen_x, light_pen_y)
+        self.read_at(address.into(), light_pen_x, light_pen_y)
+    }
+
+    /// A register by any address.
+    pub fn read_at(&self, address: u16, light_pen_x: u8, light_pen_y: u8) -> u8 {
+        self.chip.regs.read(address, &self.chip.irq, self.chip.timing.raster_line, light_pen_x, light_pen_y)
+    }
+
+    /// The bytes that a sprite of this pointer fetches, one after another, by the original's own data slot.
+    pub fn sprite_bytes(&mut self, pointer: u8, bank: u8) -> [u8; 64] {
+        let mut sprite = self.chip.sprites.sprites[0];
+        sprite.pointer = pointer.into();
+        sprite.dma_active = true;
+        sprite.mc = 0;
+        std::array::from_fn(|n| {
+            let column = n % 3;
+            sprite.slot_access_data(column, &mut self.memory, bank, 0, true, false);
+            sprite.fetch_buf[column]
+        })
     }
 
     pub fn ba_high_at_phi1(&self) -> bool {

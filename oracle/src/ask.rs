@@ -1,0 +1,290 @@
+//! Questions that a replay case has no room for: the input of the port's program `ask`, made and answered with the original.
+//!
+//! Where docs/DIFFERENCES.md has the port leave the original, the original is asked all the same and must do what that page
+//! says of it; the answer is then the port's. Nothing else is put right.
+
+use crate::accept::CLOCK_LIMIT;
+use crate::cases::{lend, Maker};
+use crate::memory::{Memory, COLOUR, RAM, ROM};
+use crate::replay::{answer_case, create, fill, open, Case, BA_HIGH_AT_PHI1};
+use crate::scene::{State, SCENE};
+use crate::vic::glue::{Machine, Refusal, BANK_ABOVE_3, WRONG_LENGTH};
+use crate::vic::timing::VicTiming;
+use std::fs;
+use std::io::{self, Write};
+use std::panic;
+use std::path::Path;
+
+pub const POWER_UP: u8 = 0;
+pub const MASK: u8 = 1;
+pub const BAD_LINE: u8 = 2;
+pub const COUNT: u8 = 3;
+pub const BLOCK: u8 = 4;
+pub const WRITE: u8 = 5;
+pub const READ: u8 = 6;
+pub const DISPLAY: u8 = 7;
+
+const HEAD: usize = 13;
+/// What `ask` can lend: a RAM up to the memories' end, a ROM from RAM's end on.
+const LONGEST_RAM: u16 = (RAM + ROM + COLOUR) as u16;
+const LONGEST_ROM: u16 = (ROM + COLOUR) as u16;
+/// The original's table of lines, by which it traps above (docs/DIFFERENCES.md, 14).
+const LINES: u16 = 512;
+/// The original's forced clock at power-up (docs/DIFFERENCES.md, 13).
+const FORCED_AT_POWER_UP: i64 = -40;
+
+/// How many answers are the port's and not the original's, by their numbers in docs/DIFFERENCES.md.
+#[derive(Default)]
+struct Departures {
+    power_up: u64,
+    line_above: u64,
+}
+
+/// Whether the original stops itself here; its message is not printed.
+pub fn panics(act: impl FnOnce() + panic::UnwindSafe) -> bool {
+    let hook = panic::take_hook();
+    panic::set_hook(Box::new(|_| {}));
+    let stopped = panic::catch_unwind(act).is_err();
+    panic::set_hook(hook);
+    stopped
+}
+
+/// The request mask: the original's table is private, so each sprite is asked by itself.
+pub fn mask_at(machine: &mut Machine, cycle: u16) -> u8 {
+    machine.power_up();
+    let powered = machine.state();
+    let mut mask = 0;
+    for k in 0..8 {
+        let mut state = powered.clone();
+        state.cycle = cycle;
+        state.ba_output_high = true;
+        state.dma = 1 << k;
+        state.previous_dma = 1 << k;
+        let bytes = answer_case(machine, &Case { call: BA_HIGH_AT_PHI1, bank: 0, arguments: [0; 4], state });
+        if bytes[1] == 0 {
+            mask |= 1 << k;
+        }
+    }
+    mask
+}
+
+/// The scene of power-up: the original's, and only its forced clock is another.
+fn power_up(departures: &mut Departures) -> io::Result<Vec<u8>> {
+    let mut state = Machine::original_power_up();
+    if state.forced_clock != FORCED_AT_POWER_UP {
+        return Err(io::Error::other("the original's forced clock at power-up is not that of difference 13"));
+    }
+    state.forced_clock = 0;
+    departures.power_up += 1;
+    Ok(state.encode().to_vec())
+}
+
+/// Bad or not for each YSCROLL, twice: the library and the front end are to say the same.
+fn bad_lines(raster: u16, latch: bool, departures: &mut Departures) -> io::Result<Vec<u8>> {
+    if raster >= LINES {
+        // The table is looked up before YSCROLL and the latch are, so one question tells for all.
+        if !panics(move || _ = VicTiming::compute_is_badline(raster, raster as u8 & 7, true)) {
+            return Err(io::Error::other(format!("the original has an answer for raster line {raster}, which difference 14 denies")));
+        }
+        departures.line_above += 256;
+        return Ok(vec![0; 512]);
+    }
+    let row = (0..=255).map(|yscroll| VicTiming::compute_is_badline(raster, yscroll, latch).into());
+    Ok(row.clone().chain(row).collect())
+}
+
+/// Document 01's refusals; the bytes are the original's.
+fn block(machine: &mut Machine, pointer: u8, bank: u8, ram: u16, rom: u16) -> Vec<u8> {
+    let refused = |number: Refusal| vec![number, 0];
+    if usize::from(ram) != RAM || usize::from(rom) != ROM {
+        return refused(WRONG_LENGTH);
+    }
+    if bank > 3 {
+        return refused(BANK_ABOVE_3);
+    }
+    [&[0, 64], &machine.sprite_bytes(pointer, bank)[..]].concat()
+}
+
+fn display(machine: &mut Machine, given: &[u8; HEAD]) -> Vec<u8> {
+    let odd = |place: usize| given[place] % 2 == 1;
+    let forced = i64::from_le_bytes(given[5..].try_into().expect("eight bytes"));
+    let refusal = machine.place_display_at(odd(1), odd(2), odd(3), odd(4), forced).err().unwrap_or(0);
+    [&[refusal], &machine.state().encode()[..]].concat()
+}
+
+/// One answer; nothing where the question ends the run.
+fn told(machine: &mut Machine, head: &[u8; HEAD], state: Option<&State>, departures: &mut Departures) -> io::Result<Option<Vec<u8>>> {
+    let number = |place: usize| u16::from_le_bytes([head[place], head[place + 1]]);
+    if let Some(state) = state {
+        machine.load(state);
+    }
+    Ok(Some(match head[0] {
+        POWER_UP => power_up(departures)?,
+        MASK => vec![mask_at(machine, number(1)); 2],
+        BAD_LINE => bad_lines(number(1), head[3] != 0, departures)?,
+        COUNT => vec![head[1].count_ones() as u8; 2],
+        BLOCK if number(3) > LONGEST_RAM || number(5) > LONGEST_ROM => return Ok(None),
+        BLOCK => block(machine, head[1], head[2], number(3), number(5)),
+        WRITE => {
+            machine.write_at(number(1), head[3]);
+            machine.state().encode().to_vec()
+        }
+        READ => vec![machine.read_at(number(1), head[3], head[4])],
+        DISPLAY => display(machine, head),
+        _ => return Ok(None),
+    }))
+}
+
+/// Answers a file of questions, as far as they go.
+pub fn answer(input: &str, output: &str) -> io::Result<()> {
+    let mut input = open(input)?;
+    let mut output = create(output)?;
+    let mut memory = Memory::new();
+    for part in [&mut memory.ram[..], &mut memory.rom[..], &mut memory.colour[..]] {
+        if fill(&mut input, part)? < part.len() {
+            return output.flush();
+        }
+    }
+    let mut machine = Machine::new(memory);
+    let mut departures = Departures::default();
+    loop {
+        let mut head = [0; HEAD];
+        if fill(&mut input, &mut head)? < HEAD {
+            break;
+        }
+        let mut state = None;
+        if head[0] >= WRITE {
+            let mut scene = [0; SCENE];
+            if fill(&mut input, &mut scene)? < SCENE {
+                break;
+            }
+            let Some(decoded) = State::decode(&scene) else { break };
+            state = Some(decoded);
+        }
+        match told(&mut machine, &head, state.as_ref(), &mut departures)? {
+            Some(bytes) => output.write_all(&bytes)?,
+            None => break,
+        }
+    }
+    output.flush()?;
+    println!("{} by difference 13, {} by difference 14", departures.power_up, departures.line_above);
+    Ok(())
+}
+
+/// A question's first bytes: its kind and what it is asked with.
+fn head(kind: u8, given: &[u8]) -> Vec<u8> {
+    let mut bytes = vec![kind];
+    bytes.extend(given);
+    bytes.resize(HEAD, 0);
+    bytes
+}
+
+fn numbered(kind: u8, number: u16, more: &[u8]) -> Vec<u8> {
+    head(kind, &[&number.to_le_bytes(), more].concat())
+}
+
+fn block_question(pointer: u8, bank: u8, ram: usize, rom: usize) -> Vec<u8> {
+    head(BLOCK, &[&[pointer, bank], &(ram as u16).to_le_bytes()[..], &(rom as u16).to_le_bytes()].concat())
+}
+
+/// Every pair of lengths of these, the right ones too.
+const RAMS: [usize; 10] = [0, 1, 64, ROM, RAM - 64, RAM - 1, RAM, RAM + 1, RAM + ROM, LONGEST_RAM as usize];
+const ROMS: [usize; 8] = [0, 1, 64, ROM - 64, ROM - 1, ROM, ROM + 1, LONGEST_ROM as usize];
+
+/// A register's question about any state: by this address, and with any bytes.
+fn register(maker: &mut Maker, kind: u8, address: u16) -> Vec<u8> {
+    let cycle = maker.random.within(1, 63) as u16;
+    let state = maker.any(cycle);
+    let (x, y) = (maker.random.byte(), maker.random.byte());
+    [numbered(kind, address, &[x, y]), state.encode().to_vec()].concat()
+}
+
+/// A display that is placed: the forced clock at an edge, near the state's clock, or anywhere.
+fn placed(maker: &mut Maker) -> Vec<u8> {
+    let cycle = maker.random.within(1, 63) as u16;
+    let state = maker.any(cycle);
+    let r = &mut maker.random;
+    let forced = match r.below(6) {
+        0 | 1 => r.pick(&[
+            i64::MIN,
+            i64::MIN + 1,
+            -CLOCK_LIMIT,
+            FORCED_AT_POWER_UP,
+            -2,
+            -1,
+            0,
+            1,
+            2,
+            CLOCK_LIMIT - 2,
+            CLOCK_LIMIT - 1,
+            CLOCK_LIMIT,
+            CLOCK_LIMIT + 1,
+            CLOCK_LIMIT + 2,
+            i64::MAX,
+        ]),
+        2 | 3 => state.clock.wrapping_add(r.within(-44, 44)),
+        4 => r.within(0, CLOCK_LIMIT),
+        _ => r.next() as i64,
+    };
+    let flags: [u8; 4] = std::array::from_fn(|_| r.byte());
+    [head(DISPLAY, &[&flags[..], &forced.to_le_bytes()].concat()), state.encode().to_vec()].concat()
+}
+
+/// The parts, a file each: all numbers where there are at most millions, and `count` placed displays.
+pub fn make(seed: u64, count: u64, folder: &str) -> io::Result<()> {
+    fs::create_dir_all(folder)?;
+    let mut maker = Maker::new(seed);
+    let memory = maker.memory().clone();
+    let part = |name: &str, questions: &mut dyn Iterator<Item = Vec<u8>>| {
+        let mut output = create(&Path::new(folder).join(format!("{name}.bin")).to_string_lossy())?;
+        lend(&memory, &mut output)?;
+        for question in questions {
+            output.write_all(&question)?;
+        }
+        output.flush()
+    };
+    let all = || 0..=u16::MAX;
+    let bytes = || 0..=u8::MAX;
+    part("power-up", &mut [head(POWER_UP, &[])].into_iter())?;
+    part("mask", &mut all().map(|cycle| numbered(MASK, cycle, &[])))?;
+    part("bad line", &mut all().flat_map(|raster| [0, 1].map(|latch| numbered(BAD_LINE, raster, &[latch]))))?;
+    part("other latch", &mut (0..LINES).flat_map(|raster| (2..=255).map(move |latch| numbered(BAD_LINE, raster, &[latch]))))?;
+    part("sprite count", &mut bytes().map(|dma| head(COUNT, &[dma])))?;
+    let right = bytes().flat_map(|bank| bytes().map(move |pointer| block_question(pointer, bank, RAM, ROM)));
+    let banks = [0, 1, 2, 3, 4, 255].into_iter();
+    let lengths = banks.flat_map(|bank| RAMS.into_iter().flat_map(move |ram| ROMS.into_iter().map(move |rom| (bank, ram, rom))));
+    let wrong = lengths.flat_map(|(bank, ram, rom)| [0, 63, 64, 127, 128, 255].map(|pointer| block_question(pointer, bank, ram, rom)));
+    part("block", &mut right.chain(wrong))?;
+    part("register write", &mut all().map(|address| register(&mut maker, WRITE, address)))?;
+    part("register read", &mut all().map(|address| register(&mut maker, READ, address)))?;
+    part("place display", &mut (0..count).map(|_| placed(&mut maker)))
+}
+
+/// A few of each kind, with the edges of each.
+pub fn make_sample(seed: u64, output: &str) -> io::Result<()> {
+    let mut output = create(output)?;
+    let mut maker = Maker::new(seed);
+    lend(maker.memory(), &mut output)?;
+    let mut questions = vec![head(POWER_UP, &[])];
+    questions.extend((0..=66).chain([127, 191, 255, 256, 256 + 63, 0x3F00 + 63, 0xFFFF]).map(|cycle| numbered(MASK, cycle, &[])));
+    for raster in [0, 0x2F, 0x30, 0x31, 0x37, 0xF0, 0xF7, 0xF8, 0x130, 311, 511, 512, 512 + 0x30, 0xFFFF] {
+        questions.extend([0, 1, 2].map(|latch| numbered(BAD_LINE, raster, &[latch])));
+    }
+    questions.extend([0, 1, 0x80, 0x55, 0xFE, 0xFF].map(|dma| head(COUNT, &[dma])));
+    for bank in [0, 1, 2, 3, 4, 255] {
+        questions.extend([0, 63, 64, 127, 128, 255].map(|pointer| block_question(pointer, bank, RAM, ROM)));
+        questions.extend(RAMS.into_iter().map(|ram| block_question(64, bank, ram, ROM)));
+        questions.extend(ROMS.into_iter().map(|rom| block_question(64, bank, RAM, rom)));
+    }
+    for kind in [WRITE, READ] {
+        for place in 0..64 {
+            let page = maker.random.within(4, 1023) as u16;
+            questions.push(register(&mut maker, kind, page * 64 + place));
+        }
+    }
+    questions.extend((0..64).map(|_| placed(&mut maker)));
+    for question in questions {
+        output.write_all(&question)?;
+    }
+    output.flush()
+}
