@@ -82,8 +82,8 @@ fn power_up(departures: &mut Departures) -> io::Result<Vec<u8>> {
 /// Bad or not for each YSCROLL, twice: the library and the front end are to say the same.
 fn bad_lines(raster: u16, latch: bool, departures: &mut Departures) -> io::Result<Vec<u8>> {
     if raster >= LINES {
-        // The table is looked up before YSCROLL and the latch are, so one question tells for all.
-        if !panics(move || _ = VicTiming::compute_is_badline(raster, raster as u8 & 7, true)) {
+        // The table is looked up before YSCROLL is, so one question tells for all.
+        if !panics(move || _ = VicTiming::compute_is_badline(raster, raster as u8 & 7, latch)) {
             return Err(io::Error::other(format!("the original has an answer for raster line {raster}, which difference 14 denies")));
         }
         departures.line_above += 256;
