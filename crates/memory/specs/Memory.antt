@@ -1,10 +1,11 @@
 -- Memory as the chip sees it: fourteen address bits in one of four banks (Bauer 3.1).
-use Prim.Native.Nat.{ℕ, _-_, _*_, _%_}
+use Prim.Native.Nat.{ℕ, _+_, _-_, _*_, _%_}
 use mathlib.Core.Path.{_≡_}
 use mathlib.Core.Bool.{Bool, _&&_, _||_, cond}
 use mathlib.Core.List.{List, []}
 use lib.Dec.{eqb, leb, ltb}
 use lib.ListN.{length, getD, take, drop}
+use denote.Ref.{RefT, ptr, now}
 use Rattle.memory.specs.declared.Found.{Found}
 
 -- 01, Memory: what the host lends
@@ -34,3 +35,18 @@ blockOf ram rom pointer bank =
     cond (eqb (blockRefusal ram rom bank) 0)
     (cond (inRom bank start) (take 64 (drop (start - 0x1000) rom)) (take 64 (drop start ram)))
     []
+
+-- where a slice begins: which memory it is a part of, and how many bytes stand before it there; and so many bytes on
+abbrev pub Place : Type 0
+Place = ℕ × ℕ
+
+abbrev pub past : Place → ℕ → Place
+past place bytes = (place .0, bytes + place .1)
+
+-- 01, Memory: the block is a part of the caller's memory. Of a lent slice, a `RefT`, `now` is its bytes and `ptr` where it begins; a refused block, which has no bytes, begins where RAM does
+unfoldable pub blockPlace : RefT (List ℕ) → RefT (List ℕ) → ℕ → ℕ → Place
+blockPlace ram rom pointer bank =
+    let start = pointer * 64 in
+    cond (eqb (blockRefusal (now ram) (now rom) bank) 0)
+    (cond (inRom bank start) (past (ptr rom) (start - 0x1000)) (past (ptr ram) start))
+    (ptr ram)

@@ -1,7 +1,7 @@
 // The chip's view of the memory that the host lends: one read, and the 64 bytes that a pointer shows.
 ghost use mathlib.Core.Path.{_≡_};
 ghost use mathlib.Core.Bool.{Bool};
-ghost use Rattle.memory.specs.Memory.{Lent, inRom, readAt, blockRefusal, blockOf};
+ghost use Rattle.memory.specs.Memory.{Lent, inRom, readAt, blockRefusal, blockOf, blockPlace};
 
 // What a read found.
 pub struct Found {
@@ -47,7 +47,7 @@ pub fn block_refusal<'a>(ram: &'a [u8], rom: &'a [u8], pointer: u8, bank: u8) ->
 
 // The 64 bytes that a pointer shows, as a part of the lent memory that holds them; empty where refused.
 pub fn block<'a>(ram: &'a [u8], rom: &'a [u8], pointer: u8, bank: u8) -> &'a [u8]
-    ensures { λ r. ⌜ now r ≡ blockOf (now (ram .entry)) (now (rom .entry)) pointer bank ⌝ }
+    ensures { λ r. ⌜ now r ≡ blockOf (now (ram .entry)) (now (rom .entry)) pointer bank ⌝ ∗ ⌜ r .ptr ≡ blockPlace (ram .entry) (rom .entry) pointer bank ⌝ }
 {
     if block_refusal(ram, rom, pointer, bank) != 0 {
         return &ram[..0];

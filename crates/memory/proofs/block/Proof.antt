@@ -3,7 +3,7 @@ use native.Mathlib.Omega.{arith}
 use native.Mathlib.Nat.{add-sub-cancel-left}
 use borrow.Author.Needs.{needs}
 use borrow.Author.Tests.{ne-eqb}
-use Rattle.memory.specs.Memory.{blockOf}
+use Rattle.memory.specs.Memory.{blockOf, blockPlace}
 use Rattle.memory.proofs.Page.{in-page, ram-long, rom-long}
 use Rattle.memory.proofs.block.Statement.{statement}
 use Rattle.memory.proofs.block.Tie as tie
@@ -15,8 +15,10 @@ slice-aggregate-result : tie.Need-slice-aggregate-result
 slice-aggregate-result c = search needs
 
 returns : tie.Need-returns
-unfolding blockOf
-returns c = simp (ne-eqb _ 0 (λ e. c .before .if1 .taken (c .before .before .block-refusal .ensures ∙ e)))
+unfolding blockOf blockPlace
+returns c =
+    let no = ne-eqb _ 0 (λ e. c .before .if1 .taken (c .before .before .block-refusal .ensures ∙ e)) in
+    (simp no, simp no)
 
 wide-requires : tie.Need-wide-requires
 wide-requires c κs = search needs
@@ -43,12 +45,12 @@ part-result-end : tie.Need-part-result-end
 part-result-end c = omega (arith, rom-long _ _ _ (sym (c .before .before .before .before .block-refusal .ensures) ∙ c .before .before .before .if1 .left))
 
 returns-2 : tie.Need-returns-2
-unfolding blockOf
+unfolding blockOf blockPlace
 returns-2 c =
     let ok = sym (c .before .before .before .before .before .block-refusal .ensures) ∙ c .before .before .before .before .if1 .left in
     let w = c .before .before .before .wide .ensures in
     let rom = rw w at (sym (c .before .before .in-rom .ensures) ∙ c .before .if2 .taken) in
-    simp (w, ok, rom, in-page _ _ rom, add-sub-cancel-left)
+    (simp (w, ok, rom, in-page _ _ rom, add-sub-cancel-left), simp (w, ok, rom, in-page _ _ rom))
 
 cast-at : tie.Need-cast-at
 cast-at c = search needs
@@ -66,11 +68,12 @@ part-result-end-2 : tie.Need-part-result-end-2
 part-result-end-2 c = omega (arith, ram-long _ _ _ (sym (c .before .before .before .before .block-refusal .ensures) ∙ c .before .before .before .if1 .left))
 
 returns-3 : tie.Need-returns-3
-unfolding blockOf
+unfolding blockOf blockPlace
 returns-3 c =
     let ok = sym (c .before .before .before .before .before .block-refusal .ensures) ∙ c .before .before .before .before .if1 .left in
     let w = c .before .before .before .wide .ensures in
-    simp (w, ok, rw w at (sym (c .before .before .in-rom .ensures) ∙ c .before .if2 .left), add-sub-cancel-left)
+    let ram = rw w at (sym (c .before .before .in-rom .ensures) ∙ c .before .if2 .left) in
+    (simp (w, ok, ram, add-sub-cancel-left), simp (w, ok, ram))
 
 pub block-spec : {M : Type 1} → statement M
 block-spec =
