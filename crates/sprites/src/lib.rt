@@ -2,7 +2,7 @@
 ghost use mathlib.Core.Path.{_≡_};
 ghost use mathlib.Core.Bool.{Bool};
 ghost use Prim.Native.Nat.{_<_, _≤_};
-ghost use Rattle.sprites.specs.Sprites.{fresh, allFresh, spriteAt, spriteAt≔, crunched, nextBase, stepped, stepOne, mcbaseStepped, dmaBegun, startOne, started, firstPhased, secondPhased, loadOne, loaded, showOne, shown, mcLoaded, clearAfter, flipAfter, expandWritten, fetches, fetched};
+ghost use Rattle.sprites.specs.Sprites.{fresh, allFresh, spriteAt, spriteAt≔, crunched, nextBase, stepped, stepOne, mcbaseStepped, dmaBegun, startOne, started, firstPhased, secondPhased, loadOne, loaded, showOne, shown, mcLoaded, clearAfter, flipAfter, expandWritten, fetched};
 ghost use Rattle.sprites.specs.Fine.{fineOne, fineTest};
 
 pub struct Sprite {
@@ -36,10 +36,7 @@ fn next_base(flip: bool, clearing: bool, base: u8, mc: u8) -> u8
     if !flip {
         return base;
     }
-    if clearing {
-        return crunch(base, mc);
-    }
-    mc
+    if clearing { crunch(base, mc) } else { mc }
 }
 
 impl Sprite {
@@ -300,16 +297,7 @@ impl Sprites {
         fine
     }
 
-    // Whether sprite k's slots fetch: the mask and the sprite's own flag.
-    pub fn fetching(self, k: usize) -> bool
-        requires { ⌜ k < 8 ⌝ }
-        ensures { λ r. ⌜ r ≡ fetches k self ⌝ }
-    {
-        let s = self.each[k];
-        laws::has_bit(self.dma, k) & s.dma
-    }
-
-    // Sprite k's MC after its slot fetched some bytes.
+    // Sprite k's MC after its slot fetched some bytes: both the mask and the sprite's own flag are wanted.
     pub fn fetch(self, k: usize, bytes: u8) -> Self
         requires { ⌜ (k < 8) × (bytes < 4) ⌝ }
         ensures { λ r. ⌜ r ≡ fetched k bytes self ⌝ }
