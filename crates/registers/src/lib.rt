@@ -1,7 +1,6 @@
 // The register file and the interrupt latches, and what the control bits mean.
 ghost use mathlib.Core.Path.{_≡_};
-ghost use Rattle.laws.specs.Pointers.{matrixBase, characterBase};
-ghost use Rattle.registers.specs.Control.{DEN, RSEL, YSCROLL, BMM, ECM, CSEL, MCM, modeNumber};
+ghost use Rattle.registers.specs.Control.{DEN, RSEL, YSCROLL, CSEL, modeNumber};
 ghost use Rattle.registers.specs.Irq.{quiet, settled, triggered, cleared, enabled, irqWritten};
 ghost use Rattle.registers.specs.Registers.{fresh, written, controlled, expanded};
 ghost use Rattle.registers.specs.Read.{readControl, readLatches, readColour, controlAt, colourAt, readOf};
@@ -24,28 +23,10 @@ pub fn yscroll(ctrl1: u8) -> u8
     ctrl1 % 8
 }
 
-pub fn bmm(ctrl1: u8) -> bool
-    ensures { λ r. ⌜ r ≡ BMM ctrl1 ⌝ }
-{
-    laws::has_bit(ctrl1, 5)
-}
-
-pub fn ecm(ctrl1: u8) -> bool
-    ensures { λ r. ⌜ r ≡ ECM ctrl1 ⌝ }
-{
-    laws::has_bit(ctrl1, 6)
-}
-
 pub fn csel(ctrl2: u8) -> bool
     ensures { λ r. ⌜ r ≡ CSEL ctrl2 ⌝ }
 {
     laws::has_bit(ctrl2, 3)
-}
-
-pub fn mcm(ctrl2: u8) -> bool
-    ensures { λ r. ⌜ r ≡ MCM ctrl2 ⌝ }
-{
-    laws::has_bit(ctrl2, 4)
 }
 
 // ECM and BMM are neighbours in ctrl1.
@@ -53,18 +34,6 @@ pub fn mode(ctrl1: u8, ctrl2: u8) -> u8
     ensures { λ r. ⌜ r ≡ modeNumber ctrl1 ctrl2 ⌝ }
 {
     ctrl1 / 32 % 4 * 2 + ctrl2 / 16 % 2
-}
-
-pub fn vm_base(ptrs: u8) -> u16
-    ensures { λ r. ⌜ r ≡ matrixBase ptrs ⌝ }
-{
-    ptrs as u16 / 16 * 0x400
-}
-
-pub fn cb_base(ptrs: u8) -> u16
-    ensures { λ r. ⌜ r ≡ characterBase ptrs ⌝ }
-{
-    ptrs as u16 / 2 % 8 * 0x800
 }
 
 pub struct Irq {
