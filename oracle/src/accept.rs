@@ -1,4 +1,4 @@
-//! Which states a tick takes (document 01, "States we accept").
+//! Which states a tick takes (docs/SCOPE.md, "States we accept").
 
 use crate::scene::State;
 

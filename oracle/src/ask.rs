@@ -93,7 +93,7 @@ fn bad_lines(raster: u16, latch: bool, departures: &mut Departures) -> io::Resul
     Ok(row.clone().chain(row).collect())
 }
 
-/// Document 01's refusals; the bytes are the original's.
+/// docs/SCOPE.md's refusals; the bytes are the original's.
 fn block(machine: &mut Machine, pointer: u8, bank: u8, ram: u16, rom: u16) -> Vec<u8> {
     let refused = |number: Refusal| vec![number, 0];
     if usize::from(ram) != RAM || usize::from(rom) != ROM {

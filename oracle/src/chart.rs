@@ -1,6 +1,6 @@
-//! The program `chart` of document 01, with the original as the chip.
+//! The program `chart` of docs/SCOPE.md, with the original as the chip.
 //!
-//! corners.md, item 32, settles the readings of the run file.
+//! docs/DECISIONS.md, 33, settles the readings of the run file.
 
 use crate::memory::Memory;
 use crate::vic::glue::{Machine, Refusal};

@@ -53,7 +53,7 @@ impl Memory {
         self.bank
     }
 
-    /// Document 01, "Memory as the chip sees it". The clock is for a bus latch that is not kept.
+    /// docs/SCOPE.md, "Memory". The clock is for a bus latch that is not kept.
     pub fn vic_read(&mut self, address: u16, bank: u8, _clock: u64) -> u8 {
         // The chip has fourteen address lines; one caller does not mask them itself.
         let address = address & 0x3FFF;

@@ -1,4 +1,4 @@
-//! Replay: cases in, answers out (formats.md, "Replay").
+//! Replay: cases in, answers out (docs/FORMATS.md, "Replay").
 
 use crate::memory::{Memory, COLOUR, RAM, ROM};
 use crate::scene::{State, SCENE};

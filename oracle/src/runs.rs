@@ -1,4 +1,4 @@
-//! Makes run files (document 01, "Run file and chart program").
+//! Makes run files (docs/SCOPE.md, "Run file").
 
 use crate::memory::{COLOUR, RAM, ROM};
 use crate::rng::Rng;

@@ -1,4 +1,4 @@
-//! A chip state in plain numbers, and its 308 bytes (formats.md, "Scene, version 1").
+//! A chip state in plain numbers, and its 308 bytes (docs/FORMATS.md, "Scene").
 
 pub const SCENE: usize = 308;
 pub const HEAD: [u8; 4] = [b'N', b'P', b'S', 1];
@@ -126,7 +126,7 @@ trait Visit {
 }
 
 impl State {
-    /// The order of formats.md, said once for reading, writing and naming.
+    /// The order of docs/FORMATS.md, "Scene", said once for reading, writing and naming.
     fn visit(&mut self, v: &mut impl Visit) {
         v.word(plain("cycle"), &mut self.cycle);
         v.word(plain("raster"), &mut self.raster);

@@ -89,7 +89,7 @@ fn the_chip_keeps_a_scene() -> bool {
     })
 }
 
-/// Document 01's list, with corners.md, item 15.
+/// The list of docs/SCOPE.md, with docs/DECISIONS.md, 1.
 fn power_up() -> bool {
     let mut expected = State::default();
     expected.cycle = 63;
@@ -122,7 +122,7 @@ fn the_chart() -> bool {
     charted(&bytes) == "steps 3\n1 311 1 1 0 0 0 0\n2 0 1 1 0 0 0 1\n3 0 1 1 0 0 0 1\n"
 }
 
-/// One file for each reading of corners.md, item 32.
+/// One file for each reading of docs/DECISIONS.md, 33.
 fn faults() -> bool {
     let steps = |records: &[[u8; 5]]| {
         let mut bytes = vec![0, 0, 0, 0, 0, 0, records.len() as u8, 0];
@@ -170,7 +170,7 @@ fn faults() -> bool {
         && taken.iter().all(|record| steps(&[*record]) == "steps 1\n")
 }
 
-/// Document 01, "Twelve settled by proof", asked of the original.
+/// docs/SCOPE.md, "Twelve settled by proof", asked of the original.
 fn the_twelve() -> bool {
     let mut machine = Machine::new(Memory::new());
     let masks = [63, 54, 55].map(|cycle| mask_at(&mut machine, cycle)) == [0x1C, 0, 0x01];
@@ -227,7 +227,7 @@ fn the_twelve() -> bool {
         && (idle_at_58.rc, idle_at_58.displaying) == (7, false)
 }
 
-/// Document 01: the request lasts from three cycles before the pointer slot to the data slot.
+/// docs/SCOPE.md: the request lasts from three cycles before the pointer slot to the data slot.
 fn the_mask() -> bool {
     let mut machine = Machine::new(Memory::new());
     (0..=130).chain([0xFFFF]).all(|cycle: u16| {

@@ -41,14 +41,14 @@ bmmFell fell ptrs vc rc bank address =
 unfoldable pub ecmFell : Bool → Bool → ℕ → ℕ → ℕ
 ecmFell fell intoBitmap bank address = ecmMasked (fell && (intoBitmap || inRom bank address)) address
 
--- 01, corner 24: by the live mode; the mode before decides the two transitions
+-- DECISIONS 38: by the live mode; the mode before decides the two transitions
 unfoldable pub graphicsAddress : ℕ → ℕ → ℕ → ℕ → ℕ → ℕ → ℕ → ℕ
 graphicsAddress mode old ptrs ch vc rc bank =
     ecmFell (ecm old && not (ecm mode)) (bmm mode && (not (bmm old) || mcm mode)) bank
     (bmmFell (bmm old && not (bmm mode)) ptrs vc rc bank (plainAddress mode ptrs ch vc rc))
 
--- Bauer 3.7.3.9: 0x3FFF, under ECM 0x39FF, by the mode before (01, corner 24)
--- 01, corner 25; departs, DIFFERENCES 11: 0x38FF in the cycle of a forced bad line's first access
+-- Bauer 3.7.3.9: 0x3FFF, under ECM 0x39FF, by the mode before (DECISIONS 38)
+-- DECISIONS 39; departs, DIFFERENCES 11: 0x38FF in the cycle of a forced bad line's first access
 unfoldable pub idleAddress : ℕ → Bool → ℕ
 idleAddress old forced = cond forced 0x38FF (ecmMasked (ecm old) 0x3FFF)
 

@@ -26,7 +26,7 @@ unfoldable pub filled : List ℕ → Bool → ℕ → ℕ → ℕ → List ℕ �
 filled matrix go vmli vc ptrs ram rom colour bank =
     cond go (set matrix (placeOf vmli) (matrixWord ram rom colour bank ptrs vc)) matrix
 
--- 01, corner 21: when AEC is not low the place becomes pending and replaces an earlier one
+-- DECISIONS 36: when AEC is not low the place becomes pending and replaces an earlier one
 unfoldable pub pendingAfter : Bool → ℕ → Pending → Pending
 pendingAfter missed vmli old = cond missed (At (placeOf vmli)) old
 

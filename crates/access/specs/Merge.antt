@@ -18,7 +18,7 @@ upTo40 (negsuc n) = 0
 unfoldable pub sinceOf : ℤ → ℤ → ℕ
 sinceOf clock forced = upTo40 (clock -ℤ forced -ℤ pos 2)
 
--- 01, corner 26: the entry before, f cycles on and with v places filled
+-- DECISIONS 26: the entry before, f cycles on and with v places filled
 unfoldable pub previousOf : ℕ → ℕ → ℕ
 previousOf f v =
     cond (eqb f v) 0
@@ -59,7 +59,7 @@ merged matrix cycle f vmli old =
     cond (leb 40 f) (merging (getD matrix (placeOf vmli) 0) old matrix) (mergedAt matrix cycle f vmli old)
 
 -- Bauer 3.7.2 rule 3: an access in display state reads the matrix line at VMLI; idle clears the latch
--- 01, corner 23: with output disabled the latch keeps what it has
+-- DECISIONS 37: with output disabled the latch keeps what it has
 unfoldable pub latched : List ℕ → Bool → Bool → Bool → ℕ → ℕ → ℕ → ℕ → ℕ → Merging
 latched matrix moves hidden plain cycle f vmli ch carry =
     cond hidden (merging ch carry matrix)

@@ -25,13 +25,13 @@ pointerRead k ptrs ram rom bank = readAt ram rom bank (pointerAddress ptrs k) .b
 unfoldable pub pointersAfter : List ℕ → ℕ → ℕ → List ℕ → List ℕ → ℕ → List ℕ
 pointersAfter pointers k ptrs ram rom bank = set pointers k (pointerRead k ptrs ram rom bank)
 
--- 01, corner 19; departs, DIFFERENCES 10: with DMA it is read whatever AEC is, but for sprite 0's first; without it only with AEC low
+-- DECISIONS 5; departs, DIFFERENCES 10: with DMA it is read whatever AEC is, but for sprite 0's first; without it only with AEC low
 unfoldable pub byteTwoAfter : List ℕ → ℕ → Bool → Bool → ℕ → Bool → ℕ → List ℕ → List ℕ → ℕ → List ℕ
 byteTwoAfter bytes k first on mc low ptrs ram rom bank =
     set bytes (k * 3 + 2)
     (orOpen ((on && not first) || low) (readAt ram rom bank (byteAddress on (pointerRead k ptrs ram rom bank) mc) .byte))
 
--- 01, corner 19: without the mask byte 1 reads the idle address always; with it, only the flag or AEC lets it
+-- DECISIONS 5: without the mask byte 1 reads the idle address always; with it, only the flag or AEC lets it
 unfoldable pub byteOne : List ℕ → ℕ → Bool → Bool → ℕ → Bool → List ℕ → List ℕ → ℕ → ℕ
 byteOne pointers k mask flag mc low ram rom bank =
     orOpen (not mask || flag || low) (readAt ram rom bank (byteAddress (mask && flag) (getD pointers k 0) mc) .byte)

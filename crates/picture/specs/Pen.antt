@@ -65,7 +65,7 @@ pub record Latches : Type 0 where
   pub bytes : List ℕ
   pub words : List ℕ
 
--- 01, corner 7: pointer and byte 2, or bytes 1 and 0 and the word; sprite 0's byte 2 in the cycle that loads MC wants the bus
+-- DECISIONS 22: pointer and byte 2, or bytes 1 and 0 and the word; sprite 0's byte 2 in the cycle that loads MC wants the bus
 unfoldable pub slotted : List ℕ → List ℕ → List ℕ → Orders → ℕ → List ℕ → List ℕ → ℕ → Latches
 slotted pointers bytes words o ptrs ram rom bank =
     cond (o .pointing)

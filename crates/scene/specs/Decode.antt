@@ -1,4 +1,4 @@
--- What 308 bytes hold, field by field in the order of formats.md, and which bytes are a scene.
+-- What 308 bytes hold, field by field in the order of FORMATS, Scene, and which bytes are a scene.
 use Prim.Native.Nat.{ℕ, zero, suc, _+_, _*_}
 use mathlib.Core.Bool.{Bool, true, false, _&&_, _||_, cond}
 use mathlib.Core.List.{List, [], _∷_, _++_}
@@ -185,7 +185,7 @@ pictureAt s =
 abbrev pub chipAt : List ℕ → Chip
 chipAt s = record { regs = registersAt s; side = sideAt s; picture = pictureAt s }
 
--- formats.md, Not a scene: another length, head or version; a flag above 1; a mode above 7; a pending place that is neither 255 nor 0 to 39
+-- FORMATS, Scene: not a scene is another length, head or version; a flag above 1; a mode above 7; a pending place that is neither 255 nor 0 to 39
 
 abbrev pub headFine : List ℕ → Bool
 headFine s = eqb (byteAt s 0) 78 && eqb (byteAt s 1) 80 && eqb (byteAt s 2) 83 && eqb (byteAt s 3) 1

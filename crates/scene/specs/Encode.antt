@@ -1,4 +1,4 @@
--- The 308 bytes of a chip, part by part in the order of formats.md.
+-- The 308 bytes of a chip, part by part in the order of FORMATS, Scene.
 use Prim.Native.Nat.{ℕ, zero, suc, _+_, _*_, _/_, _%_}
 use mathlib.Core.Path.{_≡_}
 use mathlib.Core.Bool.{Bool}

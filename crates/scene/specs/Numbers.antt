@@ -11,7 +11,7 @@ use Rattle.laws.specs.Bytes.{word}
 use Rattle.access.specs.declared.Pending.{Pending}
 use Rattle.access.specs.declared.Pending.the-variants.{Nothing, At}
 
--- formats.md, Scene: a number of four bytes
+-- FORMATS, Scene: a number of four bytes
 abbrev pub longBytes : ℕ → List ℕ
 longBytes x = x % 256 ∷ x / 256 % 256 ∷ x / 65536 % 256 ∷ x / 16777216 % 256 ∷ []
 
@@ -36,14 +36,14 @@ countByte z = ofZ w8 z
 unfoldable pub aecOf : ℕ → ℤ
 aecOf b = toZ w8 b
 
--- formats.md, Scene: a flag is 0 or 1
+-- FORMATS, Scene: a flag is 0 or 1
 abbrev pub flagByte : Bool → ℕ
 flagByte f = boolByte f
 
 abbrev pub flagOf : ℕ → Bool
 flagOf b = eqb b 1
 
--- formats.md, Scene: pending place (255 none)
+-- FORMATS, Scene: pending place (255 none)
 unfoldable pub placeByte : Pending → ℕ
 placeByte Nothing = 255
 placeByte (At p) = p

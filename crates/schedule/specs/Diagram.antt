@@ -1,5 +1,5 @@
 -- The timing diagram of a line (Bauer 3.6.3) as one table: each event and the cycles in which it happens.
--- The rules of the other crates name these events, never a cycle's number.
+-- The rules of the other crates name these events. A cycle's number stands in two of them alone: VMLI's limit counts from cycle 15 (`vmliLimit`), and the merge goes by the cycle mod 4 (DECISIONS 26).
 use Prim.Native.Nat.{ℕ, zero, suc}
 use mathlib.Core.Bool.{Bool, false, _&&_, _||_, cond}
 use lib.Dec.{eqb, leb}

@@ -27,13 +27,13 @@ sizeOf part.Rom = 4096
 sizeOf part.Colour = 1024
 sizeOf part.Steps = 0
 
--- 01, Run file, corner 32: a count is 8 above its limit as soon as its two bytes are there
+-- 01, Run file; DECISIONS 33: a count is 8 above its limit as soon as its two bytes are there
 unfoldable pub countOf : ℕ → List ℕ → Count
 countOf most s =
     let n = word (getD s 0 0) (getD s 1 0) in
     cond (ltb (length s) 2) (count.Refused 7) (cond (ltb most n) (count.Refused 8) (count.Of n))
 
--- 01, Run file, corner 32: an address is judged once its record is there; past its memory it is 8
+-- 01, Run file; DECISIONS 33: an address is judged once its record is there; past its memory it is 8
 unfoldable pub changeOf : ℕ → List ℕ → Change
 changeOf size s =
     let address = word (getD s 0 0) (getD s 1 0) in

@@ -14,7 +14,7 @@ use Rattle.script.specs.declared.Read.the-variants.{Got, Refused}
 unfoldable pub allowedIf : Bool → Step → Read
 allowedIf fine step = cond fine (Got step) (Refused 8)
 
--- 01, Run file, corner 32: the kinds with their fields. Unused bytes are 0; a kind above 7 is not allowed
+-- 01, Run file; DECISIONS 33: the kinds with their fields. Unused bytes are 0; a kind above 7 is not allowed
 unfoldable pub stepDecoded : ℕ → ℕ → ℕ → ℕ → ℕ → Read
 stepDecoded kind a b c d =
     cond (eqb kind 0) (allowedIf (eqb a 0 && eqb b 0 && eqb c 0 && eqb d 0) Tick)

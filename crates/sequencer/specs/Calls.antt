@@ -30,7 +30,7 @@ unfoldable pub registerWritten : Chip → ℕ → ℕ → Chip
 registerWritten c addr v =
     regs≔ (written (c .regs) addr v) (side≔ (irq≔ (irqWritten (c .side .irq) addr v) (c .side)) c)
 
--- 01, corner 20: at the state's own cycle
+-- DECISIONS 6: at the state's own cycle
 unfoldable pub expandAt : Chip → ℕ → Chip
 expandAt c v =
     regs≔ (expanded (c .regs) v)

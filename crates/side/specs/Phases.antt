@@ -29,7 +29,7 @@ rememberAt cycle b = cond (happens mainRemembered cycle) (B.remembered b) b
 unfoldable pub endAt : ℕ → ℕ → Bool → Border → Border
 endAt cycle raster den b = cond (happens lineEnds cycle) (B.lineEnded b raster den) b
 
--- 01, corner 11: the main border is remembered after that cycle's left compare
+-- DECISIONS 23: the main border is remembered after that cycle's left compare
 unfoldable pub bordered : ℕ → ℕ → Bool → Bool → Border → Border
 bordered cycle raster den csel b =
     endAt cycle raster den

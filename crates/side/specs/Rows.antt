@@ -38,11 +38,11 @@ rowed cycle bad rising wraps r =
     let vc = pick loads (r .vcbase) (r .vc) in
     let vmli = pick loads 0 (r .vmli) in
     let rc = pick (loads && bad) 0 (r .rc) in
-    -- 01, tick 2: a rise of the bad line sets Display
+    -- 01, tick 2; departs, DIFFERENCES 27: a rise of the bad line sets Display
     let display = r .display || rising in
     let chosen = happens accessChosen cycle in
     let access = accessAfter chosen (happens accessEnds cycle) bad (r .access) in
-    -- 01, corner 23: a pending transition makes one graphics access idle, and is over with it
+    -- DECISIONS 37: a pending transition makes one graphics access idle, and is over with it
     let graphics = happens graphicsAccess cycle in
     let waiting = r .transition && not chosen in
     let moves = graphics && display && not waiting in

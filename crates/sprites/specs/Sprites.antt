@@ -64,7 +64,7 @@ stepped flip clearing s =
     let base = nextBase flip clearing (s .base) (s .mc) in
     sprite-dma≔ (s .dma && not (eqb base 63)) (sprite-base≔ base s)
 
--- 01, corner 18: the mask loses a sprite wherever its flag is off
+-- DECISIONS 4; departs, DIFFERENCES 28: the mask loses a sprite wherever its flag is off
 unfoldable pub stepOne : ℕ → Sprites → Sprites
 stepOne k s =
     let t = stepped (hasBit (s .flip) k) (hasBit (s .clear) k) (spriteAt s k) in
@@ -129,11 +129,11 @@ mcLoaded raster my enable s =
 
 -- The Y-expand write. Bauer 3.8.1 rule 1 holds the flip-flop set as long as MxYE is clear; departs, DIFFERENCES 5
 
--- 01, corner 20: in the crunch cycle, pending where neither the value nor the flip-flop is set
+-- DECISIONS 6: in the crunch cycle, pending where neither the value nor the flip-flop is set
 unfoldable pub clearAfter : ℕ → ℕ → ℕ → ℕ → ℕ
 clearAfter value cycle old flip = cond (happens crunch cycle) (255 - bitOr value flip) old
 
--- 01, corner 20: in the first DMA phase it stays set only where the old bit was set or the new one is clear
+-- DECISIONS 6: in the first DMA phase it stays set only where the old bit was set or the new one is clear
 unfoldable pub flipAfter : ℕ → ℕ → ℕ → ℕ → ℕ
 flipAfter value cycle old flip =
     bitOr (cond (happens firstPhase cycle) (bitAnd flip (bitOr old (255 - value))) flip) (255 - value)
@@ -144,7 +144,7 @@ expandWritten value cycle old s =
 
 -- A slot's bytes
 
--- 01, corner 19: the mask and the sprite's own flag
+-- DECISIONS 5; departs, DIFFERENCES 28: the mask and the sprite's own flag
 unfoldable pub fetches : ℕ → Sprites → Bool
 fetches k s = hasBit (s .dma) k && spriteAt s k .dma
 

@@ -7,7 +7,7 @@ use crate::clockchip::signals::LineLevel;
 use crate::memory::Memory;
 use crate::scene::State;
 
-/// A refusal's number in document 01.
+/// A refusal's number in docs/SCOPE.md.
 pub type Refusal = u8;
 pub const WRONG_LENGTH: Refusal = 1;
 pub const BANK_ABOVE_3: Refusal = 2;
@@ -105,7 +105,7 @@ impl Machine {
         machine
     }
 
-    /// Document 01's power-up: the parts' own values, but the forced clock is 0 and not -40.
+    /// docs/SCOPE.md's power-up: the parts' own values, but the forced clock is 0 and not -40.
     pub fn power_up(&mut self) {
         let draw = self.chip.screen.compose_video();
         self.chip = VicII::new();
