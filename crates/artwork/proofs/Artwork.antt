@@ -13,6 +13,7 @@ use Rattle.sequencer.specs.Tick.{lentRefusal, ticked, ticksFrom}
 use Rattle.sequencer.proofs.Sides.{Level, LevelAnswers, tick-level, write-level, expand-level, compares-level, controls-level, display-level, late-level, phi1-same, count-same, read-same, tick-taken, tick-late, picked}
 use Rattle.sequencer.proofs.Kept.{tick-kept, write-kept, expand-kept, compares-kept, controls-kept, display-kept, late-kept}
 use Rattle.artwork.specs.Runs.{Together, Call, done, run, Alike, tick-alike, ticks-alike, write-alike, expand-alike, compares-alike, place-controls-alike, place-display-alike, late-alike, Pairwise, none, more, Same, NeverMovesACycle, Answered}
+use Rattle.artwork.proofs.Shared.{control-1-same, control-2-same}
 
 level : {a b : Chip} → Together a b → Level a b
 level t = record { side = t .side; registers = t .registers }
@@ -74,9 +75,16 @@ each (more {x} {y} h hs) a b t =
 pub artwork-never-moves-a-cycle : NeverMovesACycle
 artwork-never-moves-a-cycle xs ys alike a b t = each alike a b t
 
--- the questions are answered alike, but for reads of picture registers
+-- the questions are answered alike, but for reads of picture registers, and of two registers in part
 pub questions-alike : (a b : Chip) → Together a b → Answered a b
-questions-alike a b t = record { high = phi1-same (level t); count = count-same (level t); read = read-same (level t) }
+questions-alike a b t =
+    record {
+      high = phi1-same (level t);
+      count = count-same (level t);
+      read = read-same (level t);
+      control-1 = control-1-same a b t;
+      control-2 = control-2-same a b t;
+    }
 
 -- after every call of two such runs
 pub questions-after-each : {rs ss : List Answer} → Pairwise Same rs ss → Pairwise (λ (r s : Answer). Answered (r .chip) (s .chip)) rs ss

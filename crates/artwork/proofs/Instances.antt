@@ -8,6 +8,8 @@ use lib.IntN.{pos}
 use lib.ListN.{replicate, length-replicate}
 use Rattle.laws.specs.Bits.{hasBit}
 use Rattle.laws.specs.Lists.{zeros}
+use Rattle.registers.specs.Read.{controlAt, readOf}
+use Rattle.timing.specs.Beam as Beams
 use Rattle.side.specs.declared.Side.{Side}
 use Rattle.side.specs.Turn.{freshSide}
 use Rattle.side.proofs.Kept.{fresh-fine}
@@ -16,6 +18,7 @@ use Rattle.sequencer.specs.declared.Answer.{Answer}
 use Rattle.sequencer.specs.Chip.{Host, host, timed, powered}
 use Rattle.sequencer.specs.Accept.{clockFine}
 use Rattle.sequencer.specs.Tick.{lentRefusal}
+use Rattle.sequencer.specs.Calls.{registerRead}
 use Rattle.sequencer.proofs.Sides.{lent-legal, lent-bank}
 use Rattle.sequencer.proofs.Kept.{powered-accepted, fine-accepted}
 use Rattle.artwork.specs.Runs.{Together, Call, tick, ticks, write, expand, compares, place-controls, place-display, late, run, timingWrite, Alike, tick-alike, ticks-alike, write-alike, expand-alike, compares-alike, place-controls-alike, place-display-alike, late-alike, Pairwise, none, more}
@@ -61,6 +64,13 @@ at-power-up =
       side = refl;
       registers = refl;
     }
+
+-- reads of 0x11 and 0x16 on these two: every bit that may differ does, and no other
+pub free-bits :
+    (registerRead powered 0x11 0 0 ≡ 0b10000000) × (registerRead loud 0x11 0 0 ≡ 0b11100000)
+    × (registerRead powered 0x16 0 0 ≡ 0b11000000) × (registerRead loud 0x16 0 0 ≡ 0b11110111)
+unfolding registerRead readOf controlAt loud powered freshSide Beams.fresh
+free-bits = (refl, refl, refl, refl)
 
 -- the same calls; sprite 0 is enabled at line 50, expanded, and the display is on
 pub plain : ℕ → List Call

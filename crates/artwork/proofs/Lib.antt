@@ -1,3 +1,4 @@
+pub mod Shared
 pub mod Artwork
 pub mod Instances
 pub mod Needed

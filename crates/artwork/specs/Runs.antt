@@ -5,6 +5,7 @@ use mathlib.Core.Bool.{Bool, true, false, _&&_, _||_}
 use mathlib.Core.List.{List, [], _∷_}
 use lib.Dec.{eqb, ltb}
 use lib.IntN.{ℤ}
+use Rattle.laws.specs.Bits.{hasBit}
 use Rattle.registers.specs.Control.{DEN, RSEL, YSCROLL, CSEL}
 use Rattle.registers.specs.Registers.{one-of, between}
 use Rattle.sequencer.specs.declared.Chip.{Chip}
@@ -86,15 +87,31 @@ pub record Same (r s : Answer) : Type 0 where
 abbrev pub NeverMovesACycle : Type 0
 NeverMovesACycle = (xs ys : List Call) → Pairwise Alike xs ys → (a b : Chip) → Together a b → Pairwise Same (run xs a) (run ys b)
 
--- reads whose answer may differ: the colours, the eight X, and what shares a byte with mode bits or holds no timing bit
+-- reads whose answer may differ: the colours, the eight X, what shares a byte with mode bits, and what holds no timing bit
 abbrev pub pictureRead : ℕ → Bool
 pictureRead reg =
     between 0x20 0x2E reg
     || (ltb reg 0x10 && eqb (reg % 2) 0)
     || one-of reg (0x10 ∷ 0x11 ∷ 0x16 ∷ 0x18 ∷ 0x1B ∷ 0x1C ∷ 0x1D ∷ [])
 
+-- two answers of 0x11: alike but for BMM and ECM, bits 5 and 6; bit 7 is bit 8 of the raster line
+pub record Control1 (v w : ℕ) : Type 0 where
+  pub yscroll : YSCROLL v ≡ YSCROLL w
+  pub rsel : RSEL v ≡ RSEL w
+  pub den : DEN v ≡ DEN w
+  pub raster : hasBit v 7 ≡ hasBit w 7
+
+-- two answers of 0x16: alike in CSEL and in bits 6 and 7, which read 1
+pub record Control2 (v w : ℕ) : Type 0 where
+  pub csel : CSEL v ≡ CSEL w
+  pub six : hasBit v 6 ≡ hasBit w 6
+  pub seven : hasBit v 7 ≡ hasBit w 7
+
 -- the questions, which change nothing: answered alike, given the same light pen bytes
 pub record Answered (a b : Chip) : Type 0 where
   pub high : phi1 a ≡ phi1 b
   pub count : dmaCount a ≡ dmaCount b
   pub read : (addr penx peny : ℕ) → pictureRead (addr % 64) ≡ false → registerRead a addr penx peny ≡ registerRead b addr penx peny
+  -- of the two that share a byte with mode bits, the timing bits
+  pub control-1 : (addr penx peny : ℕ) → addr % 64 ≡ 0x11 → Control1 (registerRead a addr penx peny) (registerRead b addr penx peny)
+  pub control-2 : (addr penx peny : ℕ) → addr % 64 ≡ 0x16 → Control2 (registerRead a addr penx peny) (registerRead b addr penx peny)
