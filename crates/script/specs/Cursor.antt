@@ -2,7 +2,7 @@
 use Prim.Native.Nat.{ℕ, zero, suc, _+_, _-_}
 use mathlib.Core.Bool.{Bool, true, false, cond}
 use mathlib.Core.List.{List, [], _∷_}
-use lib.Dec.{eqb}
+use lib.Dec.{eqb, ltb}
 use lib.ListN.{drop}
 use Rattle.script.specs.declared.Read.{Read}
 use Rattle.script.specs.declared.Read.the-variants as read
@@ -70,6 +70,14 @@ recorded part.Steps s c = stepRead s c
 -- no part is begun, and the first count stands at 0
 unfoldable pub startOf : Cursor
 startOf = record { at = 0; part = part.Start; left = 0 }
+
+-- a step is to come
+unfoldable pub atStep : Part → ℕ → Bool
+atStep part.Start left = false
+atStep part.Ram left = false
+atStep part.Rom left = false
+atStep part.Colour left = false
+atStep part.Steps left = ltb 0 left
 
 -- what the file says at a cursor, and the cursor past it
 unfoldable pub nextOf : List ℕ → Cursor → Found

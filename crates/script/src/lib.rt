@@ -1,12 +1,12 @@
 // The run file: what stands at a place of its bytes, one record at a time.
 ghost use mathlib.Core.Path.{_≡_};
 ghost use mathlib.Core.Bool.{Bool};
-ghost use Prim.Native.Nat.{_-_, _<_};
+ghost use Prim.Native.Nat.{_-_, _≤_, _<_};
 ghost use lib.ListN.{length, drop};
 ghost use Rattle.laws.specs.Bytes.{word};
 ghost use Rattle.script.specs.Step.{allowedIf, stepDecoded, stepOf, byteOf, bytesOf};
 ghost use Rattle.script.specs.File.{sizeOf, countOf, changeOf, endOf};
-ghost use Rattle.script.specs.Cursor.{changesBegun, stepsBegun, changed, stepRead, begun, recorded, startOf, nextOf};
+ghost use Rattle.script.specs.Cursor.{stepFrom, atStep, changesBegun, stepsBegun, changed, stepRead, begun, recorded, startOf, nextOf};
 ghost use Rattle.script.specs.Block.{blockSteps, blockLen, blockFrom};
 
 // A step of the run, with its fields as 01 lists them.
@@ -302,25 +302,13 @@ fn change_in(s: &[u8], here: Cursor, memory: Part) -> Found
     }
 }
 
-// A step.
+// A step, the first of the block that is lent for it.
 fn step_in(s: &[u8], here: Cursor) -> Found
     requires { ⌜ 0 < here .left ⌝ }
     ensures { λ r. ⌜ r ≡ stepRead (now (s .entry)) here ⌝ }
 {
-    match step_of(s, here.at) {
-        Read::Got(step) => Found {
-            item: Item::Do(step),
-            cursor: Cursor {
-                at: here.at + 5,
-                part: Part::Steps,
-                left: here.left - 1,
-            },
-        },
-        Read::Refused(number) => Found {
-            item: Item::Refused(number),
-            cursor: here,
-        },
-    }
+    let lent = block(s, here.at, here.left);
+    here.in_block(lent, here.at)
 }
 
 // The next record of a part.
@@ -358,6 +346,41 @@ impl Cursor {
             return begin(s, self);
         }
         record_in(s, self)
+    }
+
+    // Whether a step is to come.
+    pub fn at_step(self) -> bool
+        ensures { λ r. ⌜ r ≡ atStep (self .part) (self .left) ⌝ }
+    {
+        let part = self.part;
+        match part {
+            Part::Start => false,
+            Part::Ram => false,
+            Part::Rom => false,
+            Part::Colour => false,
+            Part::Steps => 0 < self.left,
+        }
+    }
+
+    // The step at the cursor, in the steps that are lent from a place on.
+    pub fn in_block(self, lent: &[u8], from: usize) -> Found
+        requires { ⌜ (from ≤ self .at) × (0 < self .left) × (length (now lent) ≤ 18446744073709551615 - from) ⌝ }
+        ensures { λ r. ⌜ r ≡ stepFrom self (stepOf (drop (self .at - from) (now (lent .entry)))) ⌝ }
+    {
+        match step_at(lent, self.at - from) {
+            Read::Got(step) => Found {
+                item: Item::Do(step),
+                cursor: Cursor {
+                    at: self.at + 5,
+                    part: Part::Steps,
+                    left: self.left - 1,
+                },
+            },
+            Read::Refused(number) => Found {
+                item: Item::Refused(number),
+                cursor: self,
+            },
+        }
     }
 }
 

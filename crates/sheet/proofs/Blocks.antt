@@ -2,7 +2,7 @@
 use Prim.Native.Nat.{ℕ, zero, suc, _+_, _-_, _<_}
 use mathlib.Core.Path.{_≡_, refl, sym, _∙_, ap}
 use mathlib.Core.Bool.{Bool, true, false, cond}
-use mathlib.Core.List.{List, [], _∷_, _++_}
+use mathlib.Core.List.{List, [], _∷_, _++_, append-assoc}
 use native.Mathlib.Omega.{arith}
 use lib.Dec.{eqb}
 use lib.ListN.{length}
@@ -19,11 +19,8 @@ use Rattle.sheet.specs.declared.Run.{Run}
 use Rattle.sheet.specs.Sheet.{Store, hostOf, begunOf, cursorAt, runBy, saidDoing, runDoing, saidAt, runAt, storeAt, saidIn, runIn, storeIn}
 use Rattle.sheet.specs.Fill.{Sheet, sheet, oneTurn, goes, turns, emptied, Filled, ahead}
 use Rattle.sheet.specs.Chart.{told, chartOf}
+use Rattle.sheet.proofs.Less.{keeps-cursor}
 use Rattle.sheet.proofs.Loop.{never, is-going}
-
-joined : (x y z : List ℕ) → (x ++ y) ++ z ≡ x ++ (y ++ z)
-joined [] y z = refl
-joined (a ∷ x) y z = ap (λ (l : List ℕ). a ∷ l) (joined x y z)
 
 -- ---- the text does not hang on where it goes or where the reader stands
 
@@ -90,19 +87,6 @@ pub over : (s : List ℕ) (m : Store) (r : Run) → r .going ≡ false → toCom
 unfolding ahead readFrom told
 over s m r g = simp g
 
-did-cursor : (r : Run) (s : Step) (d : Done) (fine : Bool) → eqb (d .refused) 0 ≡ fine → runBy r s d .cursor ≡ r .cursor
-did-cursor r s d true e = simp e
-did-cursor r s d false e = simp e
-
-keeps-cursor : (m : Store) (r : Run) (i : Item) → runAt m r i .cursor ≡ r .cursor
-unfolding runAt runDoing
-keeps-cursor m r (item.Changes memory n) = refl
-keeps-cursor m r (item.Change memory address value) = refl
-keeps-cursor m r (item.Steps n) = refl
-keeps-cursor m r (item.Do s) = did-cursor r s (doneOf (hostOf m (r .bank)) (r .chip) s) (eqb (doneOf (hostOf m (r .bank)) (r .chip) s .refused) 0) refl
-keeps-cursor m r item.Done = refl
-keeps-cursor m r (item.Refused number) = refl
-
 -- an item after which the run goes on is not the last
 not-last : (m : Store) (r : Run) (i : Item) → runAt m r i .going ≡ true → isLast i ≡ false
 unfolding runAt
@@ -156,7 +140,7 @@ turned-all : (s : List ℕ) (x : Sheet) (go : Bool) → goes (x .run) ≡ go →
 unfolding oneTurn
 turned-all s x false e = refl
 turned-all s x true e =
-    joined (x .text) (saidIn s (x .store) (x .run)) _
+    append-assoc (x .text) (saidIn s (x .store) (x .run)) _
     ∙ ap (λ (y : List ℕ). x .text ++ y) (sym (one s (x .store) (x .run) (is-going (x .run) e)))
 
 turns-all : (n : ℕ) (s : List ℕ) (x : Sheet) → all s (turns n s x) ≡ all s x
@@ -176,14 +160,15 @@ pub record Block (s : List ℕ) (m : Store) (start : Run) (out : List ℕ) (left
 
 pub block : (s : List ℕ) (m : Store) (start : Run) (out : List ℕ) (left : Store) (r : Run) (after : List ℕ) → Filled s m start out left r after → Block s m start out left r after
 block s m start out left r after f =
-    let x = turns (f .count) s (sheet (emptied start) m []) in
+    let t = f .turned in
+    let x = turns (t .count) s (sheet (emptied start) m []) in
     record {
       text = x .text;
-      written = f .text;
+      written = t .text;
       whole =
-          ap (λ y. x .text ++ toCome s y r) (f .store)
-          ∙ ap (λ y. x .text ++ toCome s (x .store) y) (f .run)
-          ∙ turns-all (f .count) s (sheet (emptied start) m [])
+          ap (λ y. x .text ++ toCome s y r) (t .store)
+          ∙ ap (λ y. x .text ++ toCome s (x .store) y) (t .run)
+          ∙ turns-all (t .count) s (sheet (emptied start) m [])
           ∙ emptied-same s m start;
     }
 

@@ -9,12 +9,11 @@ use borrow.Author.Tests.{eq-eqb, ne-eqb}
 use Rattle.script.specs.declared.Step.{Step}
 use Rattle.script.specs.declared.Item.{Item}
 use Rattle.script.specs.declared.Found.{Found}
-use Rattle.script.specs.Cursor.{nextOf}
 use Rattle.run.specs.declared.Done.{Done}
 use Rattle.run.specs.Run.{doneOf}
 use Rattle.line.specs.Text.{Written, pasted, refusedOf}
 use Rattle.sheet.specs.declared.Run.{Run}
-use Rattle.sheet.specs.Sheet.{Store, hostOf, cursorAt, placed, stepDone, toldOf, saidBy, runBy, saidDoing, runDoing, saidAt, runAt, storeAt, saidIn, runIn, storeIn}
+use Rattle.sheet.specs.Sheet.{Store, hostOf, cursorAt, placed, stepDone, toldOf, saidBy, runBy, saidDoing, runDoing, saidAt, runAt, storeAt, saidOn, runOn}
 
 pub nothing : (out : List ℕ) (at : ℕ) → Written out at [] out at
 unfolding pasted
@@ -57,22 +56,14 @@ module _ (m : Store) (run r : Run) (s : Step) (d : Done) (out after : List ℕ) 
   unfolding runDoing saidDoing
   refused-doing e l = subst By did (by-refused run r s d out after e l)
 
--- an item's turn, from what was read and what was done for it
-module _ (s : List ℕ) (m after-m : Store) (b run r : Run) (found : Found) (i : Item) (out after : List ℕ) where
+-- an item's turn, from what was done for it
+module _ (m after-m : Store) (b run r : Run) (found : Found) (i : Item) (out after : List ℕ) where
   abbrev Turn : Run → Item → Type 0
   Turn x j =
       (r .at ≤ x .at + 64) × (r ≡ runAt m x j) × Written out (x .at) (saidAt m x j) after (r .at) × (after-m ≡ storeAt m j)
 
-  abbrev Whole : Found → Type 0
-  Whole x =
-      (r .at ≤ b .at + 64)
-      × (r ≡ runAt m (cursorAt b (x .cursor)) (x .item))
-      × Written out (b .at) (saidAt m (cursorAt b (x .cursor)) (x .item)) after (r .at)
-      × (after-m ≡ storeAt m (x .item))
-
-  pub turned-by : found ≡ nextOf s (b .cursor) → run ≡ cursorAt b (found .cursor) → found .item ≡ i → Turn run i
-      → (r .at ≤ b .at + 64) × ((r ≡ runIn s m b) × (Written out (b .at) (saidIn s m b) after (r .at) × (after-m ≡ storeIn s m b)))
-  unfolding runIn saidIn storeIn
-  turned-by next moved was done =
-      let w = subst Whole next (subst (λ j. Turn (cursorAt b (found .cursor)) j) (sym was) (subst (λ x. Turn x i) moved done)) in
+  pub turned-by : run ≡ cursorAt b (found .cursor) → found .item ≡ i → Turn run i
+      → (r .at ≤ b .at + 64) × ((r ≡ runOn m b found) × (Written out (b .at) (saidOn m b found) after (r .at) × (after-m ≡ storeAt m (found .item))))
+  turned-by moved was done =
+      let w = subst (λ j. Turn (cursorAt b (found .cursor)) j) (sym was) (subst (λ x. Turn x i) moved done) in
       (w .0, (w .1, (w .2, w .3)))

@@ -1,4 +1,4 @@
--- A turn of a run that goes on leaves less to read, or ends it. Assumes nothing.
+-- A turn keeps the cursor past what was read; where the run goes on, it leaves less to read, or ends it. Assumes nothing.
 use Prim.Native.Nat.{ℕ, _-_, _<_}
 use mathlib.Core.Path.{_≡_, refl, ap}
 use mathlib.Core.Bool.{Bool, true, false}
@@ -16,6 +16,19 @@ use Rattle.run.specs.Run.{doneOf}
 use Rattle.sheet.specs.declared.Run.{Run}
 use Rattle.sheet.specs.Sheet.{Store, hostOf, cursorAt, runBy, runDoing, runAt, runIn}
 use Rattle.sheet.specs.Fill.{ahead}
+
+did-cursor : (r : Run) (s : Step) (d : Done) (fine : Bool) → eqb (d .refused) 0 ≡ fine → runBy r s d .cursor ≡ r .cursor
+did-cursor r s d true e = simp e
+did-cursor r s d false e = simp e
+
+pub keeps-cursor : (m : Store) (r : Run) (i : Item) → runAt m r i .cursor ≡ r .cursor
+unfolding runAt runDoing
+keeps-cursor m r (item.Changes memory n) = refl
+keeps-cursor m r (item.Change memory address value) = refl
+keeps-cursor m r (item.Steps n) = refl
+keeps-cursor m r (item.Do s) = did-cursor r s (doneOf (hostOf m (r .bank)) (r .chip) s) (eqb (doneOf (hostOf m (r .bank)) (r .chip) s .refused) 0) refl
+keeps-cursor m r item.Done = refl
+keeps-cursor m r (item.Refused number) = refl
 
 module _ (s : List ℕ) (m : Store) (r : Run) (on : r .going ≡ true) where
   -- a run that stands further on

@@ -1,4 +1,5 @@
 pub mod Glue
 pub mod Less
 pub mod Loop
+pub mod Lent
 pub mod Blocks

@@ -1,31 +1,27 @@
--- The loop of a block: what holds at its test, and what is left when it stops. Assumes nothing.
+-- Turns, one after the other, and the loops over them: what holds at a loop's test, and what is left when it stops. Assumes nothing.
 use Prim.Native.Nat.{ℕ, zero, suc, _+_, _≤_, _<_}
 use mathlib.Core.Path.{_≡_, refl, sym, _∙_, ap, subst}
 use mathlib.Core.Bool.{Bool, true, false, _&&_, cond}
-use mathlib.Core.List.{List, [], _++_}
+use mathlib.Core.List.{List, [], _++_, append-nil, append-assoc}
 use native.Mathlib.Omega.{arith}
+use native.Mathlib.Nat.{zero-add, suc-add}
 use lib.Dec.{leb}
 use borrow.Author.Tests.{leb-true}
+use Rattle.script.specs.declared.Found.{Found}
+use Rattle.script.specs.Cursor.{nextOf}
 use Rattle.line.specs.Text.{Written}
 use Rattle.line.proofs.Join.{on}
 use Rattle.sheet.specs.declared.Run.{Run}
-use Rattle.sheet.specs.Sheet.{Store, saidIn, runIn, storeIn}
-use Rattle.sheet.specs.Fill.{Sheet, sheet, oneTurn, goes, turns, emptied, Filled, ahead}
+use Rattle.sheet.specs.Sheet.{Store, saidOn, runOn, storeAt, saidIn, runIn, storeIn}
+use Rattle.sheet.specs.Fill.{Sheet, sheet, oneTurn, goes, turns, ahead, Turned, Gone, emptied, Filled}
 use Rattle.sheet.proofs.Glue.{nothing}
 use Rattle.sheet.proofs.Less.{turn-less}
-
-pub record Going (s : List ℕ) (m : Store) (start : Run) (out : List ℕ) (left : Store) (r : Run) (after : List ℕ) : Type 0 where
-  pub count : ℕ
-  pub same : sheet r left (turns count s (sheet start m []) .text) ≡ turns count s (sheet start m [])
-  pub text : Written out (start .at) (turns count s (sheet start m []) .text) after (r .at)
-  pub fewer : ahead s r + count ≤ ahead s start
-  pub within : r .at ≤ 65536
 
 pub never : {P : Type 0} → true ≡ false → P
 never e = absurd (let z : _≡_ {A = Bool} true false = e in let n : _≡_ {A = ℕ} 0 1 = cc in omega arith)
 
--- what the loop's test says
-both : (a b : Bool) → (a && b) ≡ true → (a ≡ true) × (b ≡ true)
+-- what a loop's test says
+pub both : (a b : Bool) → (a && b) ≡ true → (a ≡ true) × (b ≡ true)
 both true b e = (refl, e)
 both false b e = never (sym e)
 
@@ -35,58 +31,116 @@ is-going r e = both (r .going) (leb (r .at) 65472) e .0
 pub has-room : (r : Run) → goes r ≡ true → r .at ≤ 65472
 has-room r e = leb-true (r .at) 65472 (both (r .going) (leb (r .at) 65472) e .1)
 
+-- ---- turns after turns
+
+-- text that stands before what is said from here on
+abbrev behind : List ℕ → Sheet → Sheet
+behind text x = sheet (x .run) (x .store) (text ++ x .text)
+
+turn-behind : (s text : List ℕ) (x : Sheet) (go : Bool) → cond go (oneTurn s (behind text x)) (behind text x) ≡ behind text (cond go (oneTurn s x) x)
+unfolding oneTurn
+turn-behind s text x true = ap (sheet (runIn s (x .store) (x .run)) (storeIn s (x .store) (x .run))) (append-assoc text (x .text) (saidIn s (x .store) (x .run)))
+turn-behind s text x false = refl
+
+turns-behind : (n : ℕ) (s text : List ℕ) (r : Run) (m : Store) → turns n s (sheet r m text) ≡ behind text (turns n s (sheet r m []))
+unfolding turns
+turns-behind zero s text r m = ap (sheet r m) (sym (append-nil text))
+turns-behind (suc n) s text r m =
+    let y = turns n s (sheet r m []) in
+    ap (λ z. cond (goes (z .run)) (oneTurn s z) z) (turns-behind n s text r m) ∙ turn-behind s text y (goes (y .run))
+
+turns-more : (k n : ℕ) (s : List ℕ) (x : Sheet) → turns (k + n) s x ≡ turns k s (turns n s x)
+unfolding turns
+turns-more zero n s x = ap (λ (j : ℕ). turns j s x) (zero-add n)
+turns-more (suc k) n s x = ap (λ (j : ℕ). turns j s x) (suc-add k n) ∙ ap (λ z. cond (goes (z .run)) (oneTurn s z) z) (turns-more k n s x)
+
+-- ---- one turn
+
+-- what was read, done
+abbrev pub Did : Store → Run → List ℕ → Store → Run → List ℕ → Found → Type 0
+Did m r out left next after found =
+    (next .at ≤ r .at + 64)
+    × ((next ≡ runOn m r found) × (Written out (r .at) (saidOn m r found) after (next .at) × (left ≡ storeAt m (found .item))))
+
+module _ (s : List ℕ) (m : Store) (r : Run) (out : List ℕ) (left : Store) (next : Run) (after : List ℕ) (found : Found) where
+  pub one-turn : found ≡ nextOf s (r .cursor) → goes r ≡ true → Did m r out left next after found → Gone s m r out left next after
+  unfolding turns oneTurn saidIn runIn storeIn
+  one-turn read on-goes w =
+      let v = subst (Did m r out left next after) read w in
+      record {
+        turned = record { count = 1; run = simp on-goes (v .1 .0); store = simp on-goes (v .1 .1 .1); text = simp on-goes (v .1 .1 .0) };
+        within = omega (arith, v .0, has-room r on-goes);
+        less = subst (λ x. ahead s x < ahead s r) (sym (v .1 .0)) (turn-less s m r (is-going r on-goes));
+      }
+
+-- ---- a loop over turns
+
+pub record Going (s : List ℕ) (m : Store) (start : Run) (out : List ℕ) (left : Store) (r : Run) (after : List ℕ) : Type 0 where
+  pub turned : Turned s m start out left r after
+  pub within : r .at ≤ 65536
+  pub fewer : ahead s r ≤ ahead s start
+  pub less : 0 < turned .count → ahead s r < ahead s start
+
 module _ (s : List ℕ) (m : Store) (start : Run) (out : List ℕ) where
   abbrev first : Sheet
   first = sheet start m []
 
   pub at-first : start .at ≤ 65536 → Going s m start out m start out
   unfolding turns
-  at-first h = record { count = 0; same = refl; text = nothing out (start .at); fewer = omega arith; within = h }
+  at-first h =
+      record {
+        turned = record { count = 0; run = refl; store = refl; text = nothing out (start .at) };
+        within = h;
+        fewer = omega arith;
+        less = λ n. absurd (omega arith);
+      }
 
-  module _ (left : Store) (r : Run) (after : List ℕ) (now : Going s m start out left r after) (on-goes : goes r ≡ true) where
+  module _ (left : Store) (r : Run) (after : List ℕ) (now : Going s m start out left r after) where
     abbrev n : ℕ
-    n = now .count
+    n = now .turned .count
 
-    abbrev words : List ℕ
-    words = turns n s first .text ++ saidIn s left r
-
-    one-on : turns (suc n) s first ≡ oneTurn s (sheet r left (turns n s first .text))
-    unfolding turns
-    one-on = subst (λ y. cond (goes (y .run)) (oneTurn s y) y ≡ oneTurn s (sheet r left (turns n s first .text))) (now .same) (simp on-goes)
-
-    pub one-more : (next-left : Store) (next : Run) (next-after : List ℕ) → next .at ≤ r .at + 64 → next ≡ runIn s left r
-        → Written after (r .at) (saidIn s left r) next-after (next .at) → next-left ≡ storeIn s left r → Going s m start out next-left next next-after
-    unfolding oneTurn
-    one-more next-left next next-after w e t f =
+    pub some-more : (next-left : Store) (next : Run) (next-after : List ℕ) → Gone s left r after next-left next next-after → Going s m start out next-left next next-after
+    some-more next-left next next-after g =
+        let so-far = turns n s first in
+        let k = g .turned .count in
+        let from-here = turns k s (sheet r left []) in
+        let here : so-far ≡ sheet r left (so-far .text) =
+        ap (λ (x : Run). sheet x (so-far .store) (so-far .text)) (sym (now .turned .run)) ∙ ap (λ (x : Store). sheet r x (so-far .text)) (sym (now .turned .store)) in
+        let all : turns (k + n) s first ≡ behind (so-far .text) from-here =
+        turns-more k n s first ∙ ap (turns k s) here ∙ turns-behind k s (so-far .text) r left in
         record {
-          count = suc n;
-          same = subst (λ y. sheet next next-left (y .text) ≡ y) (sym one-on) (ap (λ (x : Run). sheet x next-left words) e ∙ ap (λ (x : Store). sheet (runIn s left r) x words) f);
-          text = subst (λ y. Written out (start .at) (y .text) next-after (next .at)) (sym one-on) (on (now .text) t);
-          fewer = omega (arith, now .fewer, subst (λ x. ahead s x < ahead s r) (sym e) (turn-less s left r (is-going r on-goes)));
-          within = omega (arith, w, has-room r on-goes);
+          turned =
+              record {
+                count = k + n;
+                run = g .turned .run ∙ ap (λ (x : Sheet). x .run) (sym all);
+                store = g .turned .store ∙ ap (λ (x : Sheet). x .store) (sym all);
+                text = subst (λ (x : Sheet). Written out (start .at) (x .text) next-after (next .at)) (sym all) (on (now .turned .text) (g .turned .text));
+              };
+          within = g .within;
+          fewer = omega (arith, g .less, now .fewer);
+          less = λ _. omega (arith, g .less, now .fewer);
         }
 
-    pub falls : (next : Run) → next ≡ runIn s left r → ahead s next < ahead s r
-    falls next e = subst (λ x. ahead s x < ahead s r) (sym e) (turn-less s left r (is-going r on-goes))
+    -- the loop is left, and its test held at the start
+    module _ (test : Run → Bool) (began : test start ≡ true) (over : test r ≡ false) where
+      some : (k : ℕ) → n ≡ k → 0 < k
+      unfolding turns
+      some zero e =
+          let same : r ≡ start = now .turned .run ∙ ap (λ (k : ℕ). turns k s first .run) e in
+          never (sym (subst (λ x. test x ≡ true) (sym same) began) ∙ over)
+      some (suc k) e = omega arith
 
--- the loop is left
+      pub went : Gone s m start out left r after
+      went = record { turned = now .turned; within = now .within; less = now .less (some n refl) }
+
+-- a block is filled
 module _ (s : List ℕ) (m : Store) (start begun : Run) (out : List ℕ) (left : Store) (r : Run) (after : List ℕ) (at-start : begun ≡ emptied start) (was : Going s m begun out left r after) (over : goes r ≡ false) where
   abbrev now : Going s m (emptied start) out left r after
   now = subst (λ x. Going s m x out left r after) at-start was
 
-  abbrev all : Sheet
-  all = sheet (emptied start) m []
-
   pub at-last : Filled s m start out left r after
-  at-last = record { count = now .count; run = ap (λ x. x .run) (now .same); store = ap (λ x. x .store) (now .same); text = now .text; over = over }
-
-  some : start .going ≡ true → (k : ℕ) → now .count ≡ k → 0 < k
-  unfolding turns
-  some g zero e =
-      let same : r ≡ emptied start = ap (λ x. x .run) (now .same) ∙ ap (λ k. turns k s all .run) e in
-      never (sym (subst (λ x. goes x ≡ true) (sym same) (simp g)) ∙ over)
-  some g (suc k) e = omega arith
+  at-last = record { turned = now .turned; over = over }
 
   pub less : start .going ≡ true → ahead s r < ahead s start
   unfolding ahead
-  less g = omega (arith, now .fewer, some g (now .count) refl)
+  less g = went s m (emptied start) out left r after now goes (simp g) over .less

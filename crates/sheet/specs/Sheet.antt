@@ -11,6 +11,7 @@ use Rattle.script.specs.declared.Part.the-variants as part
 use Rattle.script.specs.declared.Item.{Item}
 use Rattle.script.specs.declared.Item.the-variants as item
 use Rattle.script.specs.declared.Cursor.{Cursor}
+use Rattle.script.specs.declared.Found.{Found}
 use Rattle.script.specs.Cursor.{startOf, nextOf}
 use Rattle.sequencer.specs.declared.Chip.{Chip}
 use Rattle.sequencer.specs.Chip.{Host, host, powered}
@@ -122,13 +123,20 @@ storeAt m (item.Do s) = m
 storeAt m item.Done = m
 storeAt m (item.Refused number) = m
 
--- ---- one turn: what the file says next, done
+-- ---- one turn: what was read, done, and the run goes on past it
 
+abbrev pub saidOn : Store → Run → Found → List ℕ
+saidOn m r found = saidAt m (cursorAt r (found .cursor)) (found .item)
+
+abbrev pub runOn : Store → Run → Found → Run
+runOn m r found = runAt m (cursorAt r (found .cursor)) (found .item)
+
+-- what the file says next, done
 unfoldable pub saidIn : List ℕ → Store → Run → List ℕ
-saidIn s m r = saidAt m (cursorAt r (nextOf s (r .cursor) .cursor)) (nextOf s (r .cursor) .item)
+saidIn s m r = saidOn m r (nextOf s (r .cursor))
 
 unfoldable pub runIn : List ℕ → Store → Run → Run
-runIn s m r = runAt m (cursorAt r (nextOf s (r .cursor) .cursor)) (nextOf s (r .cursor) .item)
+runIn s m r = runOn m r (nextOf s (r .cursor))
 
 unfoldable pub storeIn : List ℕ → Store → Run → Store
 storeIn s m r = storeAt m (nextOf s (r .cursor) .item)

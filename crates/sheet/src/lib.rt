@@ -3,12 +3,14 @@ ghost use mathlib.Core.Path.{_≡_};
 ghost use mathlib.Core.Bool.{true, false};
 ghost use Prim.Native.Nat.{_+_, _≤_, _<_};
 ghost use lib.ListN.{length};
+ghost use Rattle.script.specs.Cursor.{atStep};
 ghost use Rattle.line.specs.Text.{Written, stepsOf, refusedOf};
-ghost use Rattle.sheet.specs.Sheet.{store, setIn, storeSet, begunOf, cursorAt, placed, oneMore, stepDone, toldOf, saidDoing, runDoing, saidIn, runIn, storeIn};
-ghost use Rattle.sheet.specs.Fill.{Filled, ahead};
+ghost use Rattle.sheet.specs.Sheet.{store, setIn, storeSet, begunOf, cursorAt, placed, oneMore, stepDone, toldOf, saidDoing, runDoing, saidOn, runOn, storeAt};
+ghost use Rattle.sheet.specs.Fill.{goes, Gone, Filled, ahead};
 use libc::STDOUT_FILENO;
 use run::Done;
 use script::Cursor;
+use script::Found;
 use script::Item;
 use script::Part;
 use script::Step;
@@ -180,10 +182,10 @@ fn act(run: Run, out: &mut [u8], step: Step, ram: &[u8], rom: &[u8], colour: &[u
     refuse(run, out, did.refused)
 }
 
-// What the file says next, done.
+// What was read, done.
 fn turn(
     before: Run,
-    input: &[u8],
+    found: Found,
     ram: &mut [u8],
     rom: &mut [u8],
     colour: &mut [u8],
@@ -191,12 +193,10 @@ fn turn(
 ) -> Run
     requires { ⌜ before .at + 64 ≤ length (now out) ⌝ }
     ensures { λ r. ⌜ r .at ≤ before .at + 64 ⌝ }
-    ensures { λ r. ⌜ r ≡ runIn (now (input .entry)) (store (now (ram .entry)) (now (rom .entry)) (now (colour .entry))) before ⌝ }
-    ensures { λ r. ⌜ Written (now (out .entry)) (before .at) (saidIn (now (input .entry)) (store (now (ram .entry)) (now (rom .entry)) (now (colour .entry))) before) (now (out .exit)) (r .at) ⌝ }
-    ensures { λ r. ⌜ store (now (ram .exit)) (now (rom .exit)) (now (colour .exit)) ≡ storeIn (now (input .entry)) (store (now (ram .entry)) (now (rom .entry)) (now (colour .entry))) before ⌝ }
+    ensures { λ r. ⌜ r ≡ runOn (store (now (ram .entry)) (now (rom .entry)) (now (colour .entry))) before found ⌝ }
+    ensures { λ r. ⌜ Written (now (out .entry)) (before .at) (saidOn (store (now (ram .entry)) (now (rom .entry)) (now (colour .entry))) before found) (now (out .exit)) (r .at) ⌝ }
+    ensures { λ r. ⌜ store (now (ram .exit)) (now (rom .exit)) (now (colour .exit)) ≡ storeAt (store (now (ram .entry)) (now (rom .entry)) (now (colour .entry))) (found .item) ⌝ }
 {
-    let cursor = before.cursor;
-    let found = cursor.next(input);
     let next = found.cursor;
     let item = found.item;
     let run = moved(before, next);
@@ -211,6 +211,51 @@ fn turn(
         Item::Done => at_place(run, run.at, false),
         Item::Refused(number) => refuse(run, out, number),
     }
+}
+
+// The steps of one block, which is lent once: until it is read, the run is over or another turn may not fit.
+fn walk(
+    start: Run,
+    input: &[u8],
+    ram: &mut [u8],
+    rom: &mut [u8],
+    colour: &mut [u8],
+    out: &mut [u8],
+) -> Run
+    requires { ⌜ (65536 ≡ length (now out)) × (goes start ≡ true) × (atStep (start .cursor .part) (start .cursor .left) ≡ true) ⌝ }
+    ensures { λ r. ⌜ Gone (now (input .entry)) (store (now (ram .entry)) (now (rom .entry)) (now (colour .entry))) start (now (out .entry)) (store (now (ram .exit)) (now (rom .exit)) (now (colour .exit))) r (now (out .exit)) ⌝ }
+{
+    let from = start.cursor.at;
+    let left = start.cursor.left;
+    let lent = script::block(input, from, left);
+    let rest = left - script::block_steps(left);
+    let mut run = start;
+    while run.going & (run.at <= 65472) & (rest < run.cursor.left) {
+        let cursor = run.cursor;
+        let found = cursor.in_block(lent, from);
+        run = turn(run, found, &mut *ram, &mut *rom, &mut *colour, &mut *out);
+    }
+    run
+}
+
+// What the file says next: steps of a block, or one record.
+fn on(
+    before: Run,
+    input: &[u8],
+    ram: &mut [u8],
+    rom: &mut [u8],
+    colour: &mut [u8],
+    out: &mut [u8],
+) -> Run
+    requires { ⌜ (65536 ≡ length (now out)) × (goes before ≡ true) ⌝ }
+    ensures { λ r. ⌜ Gone (now (input .entry)) (store (now (ram .entry)) (now (rom .entry)) (now (colour .entry))) before (now (out .entry)) (store (now (ram .exit)) (now (rom .exit)) (now (colour .exit))) r (now (out .exit)) ⌝ }
+{
+    let cursor = before.cursor;
+    if cursor.at_step() {
+        return walk(before, input, ram, rom, colour, out);
+    }
+    let found = cursor.next(input);
+    turn(before, found, ram, rom, colour, out)
 }
 
 // A block of the chart: from the start of the buffer on, turns until the run is over or another one may not fit.
@@ -229,7 +274,7 @@ fn fill(
 {
     let mut run = at_place(start, 0, start.going);
     while run.going & (run.at <= 65472) {
-        run = turn(run, input, &mut *ram, &mut *rom, &mut *colour, &mut *out);
+        run = on(run, input, &mut *ram, &mut *rom, &mut *colour, &mut *out);
     }
     run
 }

@@ -5,7 +5,7 @@ use borrow.Author.Needs.{needs}
 use Rattle.sheet.specs.declared.Run.{Run}
 use Rattle.sheet.specs.Sheet.{store}
 use Rattle.sheet.specs.Fill.{ahead}
-use Rattle.sheet.proofs.Loop.{Going, has-room, at-first, one-more, falls, at-last, less}
+use Rattle.sheet.proofs.Loop.{Going, at-first, some-more, at-last, less}
 use Rattle.sheet.proofs.fill.Statement.{statement}
 use Rattle.sheet.proofs.fill.Tie as tie
 
@@ -23,21 +23,17 @@ at-place-requires c κs = search needs
 loop-holds : tie.Need-loop-holds Inv-loop μ-loop
 loop-holds c = (at-first _ _ _ _ (omega (arith, ap (λ (x : Run). x .at) (c .at-place .ensures))), search needs, search needs, search needs, search needs)
 
-turn-requires : tie.Need-turn-requires Inv-loop μ-loop
-turn-requires c κs =
-    let loop = c .before .before .before .before .before .before .before in
-    omega (arith, has-room (loop .loop .run) (c .before .before .before .before .if1 .taken), loop .loop .inv .4, c .before .before .before .before .before .before .before .before .before .before .before .before .before .before .pre)
+on-requires : tie.Need-on-requires Inv-loop μ-loop
+on-requires c κs =
+    let loop = c .before .before .before .before .before .before .before .loop in
+    (omega (arith, loop .inv .4, c .before .before .before .before .before .before .before .before .before .before .before .before .before .before .pre), c .before .before .before .before .if1 .taken)
 
 loop-less : tie.Need-loop-less Inv-loop μ-loop
-loop-less c =
-    let loop = c .before .before .before .before .before .before .before .before .before .before .before .before .before .before .before .before .loop in
-    falls _ _ _ _ _ _ _ (loop .inv .0) (c .before .before .before .before .before .before .before .before .before .before .before .before .before .if1 .taken) _ (c .before .before .before .before .before .before .before .before .turn .ensures .1 .0)
+loop-less c = c .before .before .before .before .before .before .before .before .on .ensures .less
 
 loop-again : tie.Need-loop-again Inv-loop μ-loop
 loop-again c =
-    let loop = c .before .before .before .before .before .before .before .before .before .before .before .before .before .before .before .before .loop in
-    let w = c .before .before .before .before .before .before .before .before .turn .ensures in
-    (one-more _ _ _ _ _ _ _ (loop .inv .0) (c .before .before .before .before .before .before .before .before .before .before .before .before .before .if1 .taken) _ _ _ (w .0) (w .1 .0) (w .1 .1 .0) (w .1 .1 .1), search needs, search needs, search needs, search needs)
+    (some-more _ _ _ _ _ _ _ (c .before .before .before .before .before .before .before .before .before .before .before .before .before .before .before .before .loop .inv .0) _ _ _ (c .before .before .before .before .before .before .before .before .on .ensures), search needs, search needs, search needs, search needs)
 
 same-length : tie.Need-same-length Inv-loop μ-loop
 same-length c = search needs
@@ -65,7 +61,7 @@ fill-spec =
     μ-loop
     at-place-requires
     loop-holds
-    turn-requires
+    on-requires
     loop-less
     loop-again
     same-length
