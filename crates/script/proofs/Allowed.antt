@@ -54,7 +54,7 @@ fine-if false x h step e = absurd (let z : _≡_ {A = ℕ} 0 1 = cc in omega ari
 fine-refused : (number : ℕ) → Fine (Refused number)
 fine-refused number step e = absurd (let z : _≡_ {A = ℕ} 0 1 = cc in omega arith)
 
-fine : (kind a b c d : ℕ) → Fine (stepDecoded kind a b c d)
+pub fine : (kind a b c d : ℕ) → Fine (stepDecoded kind a b c d)
 unfolding stepDecoded allowed
 fine kind a b c d =
     either Fine (eqb kind 0) (fine-if (eqb a 0 && eqb b 0 && eqb c 0 && eqb d 0) Tick (λ e. refl))

@@ -1,7 +1,8 @@
 -- A step of the run file: five bytes, a kind and four more.
 use Prim.Native.Nat.{ℕ}
+use mathlib.Core.Path.{_≡_}
 use mathlib.Core.Bool.{Bool, true, _&&_, cond}
-use mathlib.Core.List.{List, [], _∷_}
+use mathlib.Core.List.{List, [], _∷_, _++_}
 use lib.Dec.{eqb, leb, ltb}
 use lib.ListN.{length, getD}
 use Rattle.laws.specs.Bytes.{lowByte, highByte, word}
@@ -63,3 +64,10 @@ allowed (Bank bank) = leb bank 3
 unfoldable pub numberOf : Read → ℕ
 numberOf (Got step) = 0
 numberOf (Refused number) = number
+
+-- 01, Run file: the bytes begin with an allowed step that is written down
+pub record Stands (s : List ℕ) : Type 0 where
+  pub step : Step
+  pub fine : allowed step ≡ true
+  pub more : List ℕ
+  pub bytes : s ≡ bytesOf step ++ more
