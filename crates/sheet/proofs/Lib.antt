@@ -3,3 +3,4 @@ pub mod Less
 pub mod Loop
 pub mod Lent
 pub mod Blocks
+pub mod Ends

@@ -7,6 +7,7 @@ ghost use Rattle.script.specs.Cursor.{atStep};
 ghost use Rattle.line.specs.Text.{Written, stepsOf, refusedOf};
 ghost use Rattle.sheet.specs.Sheet.{store, setIn, storeSet, begunOf, cursorAt, placed, oneMore, stepDone, toldOf, saidDoing, runDoing, saidOn, runOn, storeAt};
 ghost use Rattle.sheet.specs.Fill.{goes, Gone, Filled, ahead};
+ghost use Rattle.sheet.specs.Chart.{chartOf, end, endedOf, Ends};
 use libc::STDOUT_FILENO;
 use run::Done;
 use script::Cursor;
@@ -289,6 +290,8 @@ fn flush(out: &[u8], at: usize)
 pub fn print(input: &[u8], ram: &mut [u8], rom: &mut [u8], colour: &mut [u8], out: &mut [u8]) -> Run
     requires { ⌜ 65536 ≡ length (now out) ⌝ }
     ensures { λ r. ⌜ r .going ≡ false ⌝ }
+    ensures { λ r. ⌜ end r (store (now (ram .exit)) (now (rom .exit)) (now (colour .exit))) ≡ endedOf (store (now (ram .entry)) (now (rom .entry)) (now (colour .entry))) (now (input .entry)) ⌝ }
+    ensures { λ r. ⌜ Ends (chartOf (store (now (ram .entry)) (now (rom .entry)) (now (colour .entry))) (now (input .entry))) (now (out .exit)) (r .at) ⌝ }
 {
     let mut run = begun();
     while run.going {
