@@ -7,14 +7,11 @@ use native.Mathlib.Omega.{arith}
 use lib.Dec.{eqb, ltb, leb}
 use lib.ListN.{length, length-set, getD}
 use Rattle.laws.proofs.Choice.{either}
-use Rattle.access.specs.Matrix.{placeOf, filled, pendingAfter, Pends}
+use Rattle.rows.specs.Pending.{placeOf}
+use Rattle.rows.proofs.Laws.{place-small}
+use Rattle.access.specs.Matrix.{filled}
 use Rattle.access.specs.Merge.{Merging, merging, previousOf, mergedAt, merged, latched}
-use Rattle.access.specs.declared.Pending.{Pending}
 use Rattle.access.specs.Slots.{pointersAfter, byteTwoAfter, dataAfter, wordsAfter}
-
-pub place-small : (v : ℕ) → placeOf v < 40
-unfolding placeOf
-place-small v = omega arith
 
 -- so is the place that leaks into a merge
 pub previous-small : (f v : ℕ) → previousOf f v < 40
@@ -24,16 +21,7 @@ previous-small f v =
     (either (λ (p : ℕ). p < 40) (ltb v f) (place-small _)
     (either (λ (p : ℕ). p < 40) (eqb f 0) (place-small _) (place-small _)))
 
--- and so is the place that is pending, if there is one
-pub pending-small : (missed : Bool) (vmli : ℕ) (old : Pending) → Pends old → Pends (pendingAfter missed vmli old)
-unfolding pendingAfter
-pending-small missed vmli old h = either Pends missed (place-small vmli) h
-
--- nothing missed, and no place filled
-pub none-missed : (vmli : ℕ) (old : Pending) → old ≡ pendingAfter false vmli old
-unfolding pendingAfter
-none-missed vmli old = refl
-
+-- no place filled
 pub none-filled : (m : List ℕ) (vmli vc ptrs : ℕ) (ram rom colour : List ℕ) (bank : ℕ) → filled m false vmli vc ptrs ram rom colour bank ≡ m
 unfolding filled
 none-filled m vmli vc ptrs ram rom colour bank = refl

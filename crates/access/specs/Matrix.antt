@@ -1,16 +1,11 @@
 -- Character accesses and the matrix line (Bauer 3.7.2 rule 3, 3.14.6).
-use Prim.Native.Nat.{ℕ, _+_, _*_, _%_, _<_}
+use Prim.Native.Nat.{ℕ, _+_, _*_, _%_}
 use mathlib.Core.Bool.{Bool, cond}
 use mathlib.Core.List.{List}
 use lib.ListN.{getD, set}
 use Rattle.laws.specs.Pointers.{matrixBase}
 use Rattle.memory.specs.Memory.{readAt}
-use Rattle.access.specs.declared.Pending.{Pending}
-use Rattle.access.specs.declared.Pending.the-variants.{Nothing, At}
-
--- the forty places of the matrix line
-unfoldable pub placeOf : ℕ → ℕ
-placeOf vmli = vmli % 40
+use Rattle.rows.specs.Pending.{placeOf}
 
 -- Bauer 3.7.2 rule 3: the video matrix at VC, ten bits
 abbrev pub matrixAddress : ℕ → ℕ → ℕ
@@ -25,15 +20,6 @@ matrixWord ram rom colour bank ptrs vc =
 unfoldable pub filled : List ℕ → Bool → ℕ → ℕ → ℕ → List ℕ → List ℕ → List ℕ → ℕ → List ℕ
 filled matrix go vmli vc ptrs ram rom colour bank =
     cond go (set matrix (placeOf vmli) (matrixWord ram rom colour bank ptrs vc)) matrix
-
--- DECISIONS 36: when AEC is not low the place becomes pending and replaces an earlier one
-unfoldable pub pendingAfter : Bool → ℕ → Pending → Pending
-pendingAfter missed vmli old = cond missed (At (placeOf vmli)) old
-
--- 01, States we accept: none, or one of the forty
-abbrev pub Pends : Pending → Type 0
-Pends Nothing = Unit
-Pends (At p) = p < 40
 
 -- Bauer 3.14.6; 01, Late byte: the CPU's low nibble in the high byte, 0xFF below
 unfoldable pub lateWord : ℕ → ℕ

@@ -6,7 +6,7 @@ use lib.Dec.{eqb, ltb, leb}
 use lib.Bits.{bitAnd, bitOr}
 use lib.ListN.{getD, set}
 use lib.IntN.{ℤ, pos, negsuc, _-ℤ_}
-use Rattle.access.specs.Matrix.{placeOf}
+use Rattle.rows.specs.Pending.{placeOf}
 use Rattle.access.specs.declared.Latch.{Latch}
 
 -- a time as it counts here: below zero is 0, and forty or more is 40

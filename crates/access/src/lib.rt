@@ -7,16 +7,10 @@ ghost use lib.ListN.{length};
 ghost use lib.IntN.{ℤ};
 ghost use Rattle.laws.specs.Clock.{inRange};
 ghost use Rattle.memory.specs.Memory.{Lent};
-ghost use Rattle.access.specs.Matrix.{placeOf, matrixWord, filled, lateWord, pendingAfter};
+ghost use Rattle.access.specs.Matrix.{matrixWord, filled, lateWord};
 ghost use Rattle.access.specs.Merge.{sinceOf, previousOf, carryOf, mixOf, latchOf, mergedAt, merged, latched};
 ghost use Rattle.access.specs.Graphics.{ecmMasked, textAddress, bitmapAddress, plainAddress, bmmFell, ecmFell, graphicsAddress, idleAddress, accessAddress};
 ghost use Rattle.access.specs.Slots.{pointerAddress, byteAddress, orOpen, pointersAfter, byteTwoAfter, byteOne, byteZero, dataAfter, wordOf, wordsAfter};
-
-// A place of the matrix line whose colour nibble is still to come from the CPU's side of the bus.
-pub enum Pending {
-    Nothing,
-    At(u8),
-}
 
 // The character that a graphics access uses, and the bits that a merge carries on.
 pub struct Latch {
@@ -25,13 +19,6 @@ pub struct Latch {
 }
 
 // ---- the matrix
-
-// The place of the matrix line for a count of VMLI.
-pub fn place(vmli: u8) -> u8
-    ensures { λ r. ⌜ r ≡ placeOf vmli ⌝ }
-{
-    if vmli < 40 { vmli } else { vmli % 40 }
-}
 
 // A character access: the screen code below, the colour nibble above.
 pub fn matrix_word(ram: &[u8], rom: &[u8], colour: &[u8], bank: u8, ptrs: u8, vc: u16) -> u16
@@ -59,19 +46,9 @@ pub fn fill(
     ensures { λ r. ⌜ now (matrix .exit) ≡ filled (now (matrix .entry)) go vmli vc ptrs (now (ram .entry)) (now (rom .entry)) (now (colour .entry)) bank ⌝ }
 {
     if go {
-        let at = place(vmli) as usize;
+        let at = rows::place(vmli) as usize;
         matrix[at] = matrix_word(ram, rom, colour, bank, ptrs, vc);
     }
-}
-
-// An access that finds the bus still the CPU's makes its place pending, in place of an earlier one.
-pub fn next_pending(missed: bool, vmli: u8, old: Pending) -> Pending
-    ensures { λ r. ⌜ r ≡ pendingAfter missed vmli old ⌝ }
-{
-    if missed {
-        return Pending::At(place(vmli));
-    }
-    old
 }
 
 // What the CPU's byte leaves in a pending place.
@@ -106,12 +83,12 @@ pub fn previous_place(f: u8, v: u8) -> u8
         return 0;
     }
     if v < f {
-        return place((f - 1) % (f - v));
+        return rows::place((f - 1) % (f - v));
     }
     if f == 0 {
-        return place(v - 1);
+        return rows::place(v - 1);
     }
-    place(f - 1)
+    rows::place(f - 1)
 }
 
 pub fn carry_of(cycle: u16, old: u16, previous: u16) -> u16
@@ -135,8 +112,8 @@ pub fn merge_at(matrix: &mut [u16], cycle: u16, f: u8, vmli: u8, old: u16) -> La
     ensures { λ r. ⌜ r ≡ latchOf (mergedAt (now (matrix .entry)) cycle f vmli old) ⌝ ∗ ⌜ now (matrix .exit) ≡ mergedAt (now (matrix .entry)) cycle f vmli old .matrix ⌝ }
 {
     let previous = previous_place(f, vmli) as usize;
-    let current = place(vmli) as usize;
-    let next = place(f) as usize;
+    let current = rows::place(vmli) as usize;
+    let next = rows::place(f) as usize;
     let pd = matrix[previous];
     let cd = matrix[current];
     let nd = matrix[next];
@@ -156,7 +133,7 @@ pub fn merge(matrix: &mut [u16], cycle: u16, f: u8, vmli: u8, old: u16) -> Latch
     ensures { λ r. ⌜ r ≡ latchOf (merged (now (matrix .entry)) cycle f vmli old) ⌝ ∗ ⌜ now (matrix .exit) ≡ merged (now (matrix .entry)) cycle f vmli old .matrix ⌝ }
 {
     if 40 <= f {
-        let current = place(vmli) as usize;
+        let current = rows::place(vmli) as usize;
         return Latch {
             ch: matrix[current],
             carry: old,
@@ -193,7 +170,7 @@ pub fn latched_char(
         };
     }
     if plain {
-        let at = place(vmli) as usize;
+        let at = rows::place(vmli) as usize;
         return Latch {
             ch: matrix[at],
             carry: carry,

@@ -35,10 +35,6 @@ unfolding low
 is-negative (negsuc n) = refl
 is-negative (pos n) = not-below-zero n
 
-pub two-on : (z : ℤ) → inRange z → SFits w64 (z +ℤ pos 2)
-two-on (pos n) h = record { sfits = omega arith }
-two-on (negsuc n) h = absurd h
-
 -- some half cycles on
 module _ (z : ℤ) (m : ℕ) (h : inRange z) (l : m < 512) where
   few : toZ w64 m ≡ pos m

@@ -9,7 +9,8 @@ use Rattle.laws.specs.Clock.{inRange, canTick}
 use Rattle.laws.proofs.Choice.{either, or-false}
 use Rattle.schedule.specs.Requests.{maskAt}
 use Rattle.arbitration.specs.declared.Bus.{Bus}
-use Rattle.arbitration.specs.Bus.{down, Counted, aecAfter, low, arbitrated, clockOn, clockAfter, clocked, fresh, spriteAsks, requested}
+use Rattle.arbitration.specs.Set.{clock≔, aec≔, balow≔, aeclow≔}
+use Rattle.arbitration.specs.Bus.{down, Counted, aecAfter, low, arbitrated, clockOn, clocked, fresh, spriteAsks, requested}
 
 counted-down : (z : ℤ) → Counted z → Counted (down z)
 counted-down (negsuc n) h = h
@@ -20,34 +21,33 @@ pub aec-kept : (z : ℤ) (asked : Bool) → Counted z → Counted (aecAfter z as
 unfolding aecAfter
 aec-kept z asked h = either Counted asked (counted-down z h) (omega arith)
 
-pub clock-on : (n : ℕ) → clockOn (pos n) ≡ pos (n + 2)
+pub clock-on : (k n : ℕ) → clockOn k (pos n) ≡ pos (n + k * 2)
 unfolding clockOn
-clock-on n = refl
+clock-on k n = refl
 
-pub clock-on-range : (z : ℤ) → canTick z → inRange (clockOn z)
+pub clock-on-range : (z : ℤ) → canTick z → inRange (clockOn 1 z)
 unfolding clockOn
 clock-on-range (pos n) h = omega arith
 clock-on-range (negsuc n) h = absurd h
 
-pub clock-after : (k n : ℕ) → clockAfter k (pos n) ≡ pos (n + k * 2)
-unfolding clockAfter
-clock-after k n = refl
-
 -- no cycle on, and one more
-pub clock-after-none : (z : ℤ) → inRange z → clockAfter 0 z ≡ z
-unfolding clockAfter
-clock-after-none (pos n) h = ap pos (omega arith)
-clock-after-none (negsuc n) h = absurd h
+pub clock-on-none : (z : ℤ) → inRange z → clockOn 0 z ≡ z
+unfolding clockOn
+clock-on-none (pos n) h = ap pos (omega arith)
+clock-on-none (negsuc n) h = absurd h
 
-pub clock-after-one-more : (k : ℕ) (z : ℤ) → inRange z → clockAfter k (clockOn z) ≡ clockAfter (suc k) z
-unfolding clockAfter clockOn
-clock-after-one-more k (pos n) h = ap pos (omega arith)
-clock-after-one-more k (negsuc n) h = absurd h
+pub clock-on-one-more : (k : ℕ) (z : ℤ) → inRange z → clockOn k (clockOn 1 z) ≡ clockOn (suc k) z
+unfolding clockOn
+clock-on-one-more k (pos n) h = ap pos (omega arith)
+clock-on-one-more k (negsuc n) h = absurd h
+
+pub clocked-sets : (k : ℕ) (b : Bus) → clocked k b ≡ clock≔ (clockOn k (b .clock)) b
+unfolding clocked
+clocked-sets k b = refl
 
 module _ (b : Bus) where
   -- a bus that is the CPU's, and that nobody asks for
-  pub free-bus : b .balow ≡ false
-      → _≡_ {A = Bus} (record { clock = clockOn (b .clock); fall = b .fall; rise = b .rise; aec = pos 3; balow = false; aeclow = false }) (arbitrated (clocked b) false)
+  pub free-bus : b .balow ≡ false → aec≔ (pos 3) (balow≔ false (aeclow≔ false (clock≔ (clockOn 1 (b .clock)) b))) ≡ arbitrated (clocked 1 b) false
   unfolding arbitrated clocked aecAfter low
   free-bus e = simp e
 
@@ -59,15 +59,15 @@ module _ (b : Bus) where
   unfolding arbitrated
   arbitrated-clock asked = refl
 
-  pub clocked-aec : clocked b .aec ≡ b .aec
+  pub clocked-aec : clocked 1 b .aec ≡ b .aec
   unfolding clocked
   clocked-aec = refl
 
-  pub clocked-clock : clocked b .clock ≡ clockOn (b .clock)
+  pub clocked-clock : clocked 1 b .clock ≡ clockOn 1 (b .clock)
   unfolding clocked
   clocked-clock = refl
 
-  pub clocked-aeclow : clocked b .aeclow ≡ b .aeclow
+  pub clocked-aeclow : clocked 1 b .aeclow ≡ b .aeclow
   unfolding clocked
   clocked-aeclow = refl
 

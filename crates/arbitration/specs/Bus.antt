@@ -14,16 +14,12 @@ use Rattle.arbitration.specs.Set.{clock≔}
 unfoldable pub fresh : Bus
 fresh = record { clock = pos 0; fall = pos 0; rise = pos 0; aec = pos 3; balow = false; aeclow = false }
 
--- 01, tick 1: clock +2
-unfoldable pub clockOn : ℤ → ℤ
-clockOn clock = clock +ℤ pos 2
+-- 01, tick 1: clock +2, after k cycles k times
+unfoldable pub clockOn : ℕ → ℤ → ℤ
+clockOn k clock = clock +ℤ pos (k * 2)
 
--- k cycles on
-unfoldable pub clockAfter : ℕ → ℤ → ℤ
-clockAfter k clock = clock +ℤ pos (k * 2)
-
-unfoldable pub clocked : Bus → Bus
-clocked b = clock≔ (clockOn (b .clock)) b
+unfoldable pub clocked : ℕ → Bus → Bus
+clocked k b = clock≔ (clockOn k (b .clock)) b
 
 -- Bauer 3.8.1: a sprite with DMA on whose slots are near
 unfoldable pub spriteAsks : ℕ → ℕ → Bool

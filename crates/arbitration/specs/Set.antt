@@ -1,6 +1,22 @@
--- A bus with another clock.
+-- A record with one field changed: the only place that lists every field. Written by tools/setters.
+use mathlib.Core.Bool.{Bool}
 use lib.IntN.{ℤ}
 use Rattle.arbitration.specs.declared.Bus.{Bus}
 
 abbrev pub clock≔ : ℤ → Bus → Bus
-clock≔ v b = record { clock = v; fall = b .fall; rise = b .rise; aec = b .aec; balow = b .balow; aeclow = b .aeclow }
+clock≔ v r = record { clock = v; fall = r .fall; rise = r .rise; aec = r .aec; balow = r .balow; aeclow = r .aeclow }
+
+abbrev pub fall≔ : ℤ → Bus → Bus
+fall≔ v r = record { clock = r .clock; fall = v; rise = r .rise; aec = r .aec; balow = r .balow; aeclow = r .aeclow }
+
+abbrev pub rise≔ : ℤ → Bus → Bus
+rise≔ v r = record { clock = r .clock; fall = r .fall; rise = v; aec = r .aec; balow = r .balow; aeclow = r .aeclow }
+
+abbrev pub aec≔ : ℤ → Bus → Bus
+aec≔ v r = record { clock = r .clock; fall = r .fall; rise = r .rise; aec = v; balow = r .balow; aeclow = r .aeclow }
+
+abbrev pub balow≔ : Bool → Bus → Bus
+balow≔ v r = record { clock = r .clock; fall = r .fall; rise = r .rise; aec = r .aec; balow = v; aeclow = r .aeclow }
+
+abbrev pub aeclow≔ : Bool → Bus → Bus
+aeclow≔ v r = record { clock = r .clock; fall = r .fall; rise = r .rise; aec = r .aec; balow = r .balow; aeclow = v }

@@ -3,7 +3,7 @@ ghost use mathlib.Core.Path.{_≡_};
 ghost use mathlib.Core.Bool.{Bool, cond};
 ghost use lib.IntN.{ℤ};
 ghost use Rattle.laws.specs.Clock.{inRange};
-ghost use Rattle.arbitration.specs.Bus.{fresh, clockOn, clockAfter, clocked, spriteAsks, requested, aecAfter, low, arbitrated, phi1Mask, phi1High};
+ghost use Rattle.arbitration.specs.Bus.{fresh, clockOn, clocked, spriteAsks, requested, aecAfter, low, arbitrated, phi1Mask, phi1High};
 
 pub struct Bus {
     pub clock: i64,
@@ -14,18 +14,10 @@ pub struct Bus {
     pub aeclow: bool,
 }
 
-// The clock of the next cycle: it counts half cycles.
-pub fn clock_on(clock: i64) -> i64
+// The clock k cycles on: it counts half cycles.
+pub fn clock_on(clock: i64, k: u8) -> i64
     requires { ⌜ inRange clock ⌝ }
-    ensures { λ r. ⌜ r ≡ clockOn clock ⌝ }
-{
-    clock + 2
-}
-
-// The clock some cycles on.
-pub fn clock_after(clock: i64, k: u8) -> i64
-    requires { ⌜ inRange clock ⌝ }
-    ensures { λ r. ⌜ r ≡ clockAfter k clock ⌝ }
+    ensures { λ r. ⌜ r ≡ clockOn k clock ⌝ }
 {
     clock + (laws::wide(k) * 2) as i64
 }
@@ -98,12 +90,12 @@ impl Bus {
         }
     }
 
-    // The same bus, one cycle later.
-    pub fn clocked(self) -> Self
+    // The same bus, k cycles later.
+    pub fn clocked(self, k: u8) -> Self
         requires { ⌜ inRange (self .clock) ⌝ }
-        ensures { λ r. ⌜ r ≡ clocked self ⌝ }
+        ensures { λ r. ⌜ r ≡ clocked k self ⌝ }
     {
-        let clock = clock_on(self.clock);
+        let clock = clock_on(self.clock, k);
         Bus {
             clock: clock,
             fall: self.fall,

@@ -4,14 +4,17 @@ use mathlib.Core.Path.{_≡_, refl, subst}
 use mathlib.Core.Bool.{Bool, true, false, cond}
 use mathlib.Core.List.{List, map}
 use lib.Dec.{eqb}
+use Rattle.memory.specs.Lent.{Host, lentRefusal}
 use Rattle.side.specs.declared.Side.{Side}
-use Rattle.sequencer.specs.declared.Chip.{Chip}
-use Rattle.sequencer.specs.declared.Answer.{Answer}
-use Rattle.sequencer.specs.Chip.{Host}
-use Rattle.sequencer.specs.Accept.{accepted, tickable}
-use Rattle.sequencer.specs.Tick.{lentRefusal, ticked, ticksFrom}
-use Rattle.sequencer.proofs.Sides.{Level, LevelAnswers, tick-level, write-level, expand-level, compares-level, controls-level, display-level, late-level, phi1-same, count-same, read-same, tick-taken, tick-late, picked}
-use Rattle.sequencer.proofs.Kept.{tick-kept, write-kept, expand-kept, compares-kept, controls-kept, display-kept, late-kept}
+use Rattle.chip.specs.declared.Chip.{Chip}
+use Rattle.chip.specs.declared.Answer.{Answer}
+use Rattle.chip.specs.Accept.{accepted}
+use Rattle.sequencer.specs.Tick.{tickable, ticked, ticksFrom}
+use Rattle.chip.proofs.Level.{Level, LevelAnswers, picked}
+use Rattle.sequencer.proofs.Sides.{tick-level, tick-taken, tick-late}
+use Rattle.sequencer.proofs.Kept.{tick-kept}
+use Rattle.calls.proofs.Sides.{write-level, expand-level, compares-level, controls-level, display-level, late-level, phi1-same, count-same, read-same}
+use Rattle.calls.proofs.Kept.{write-kept, expand-kept, compares-kept, controls-kept, display-kept, late-kept}
 use Rattle.artwork.specs.Runs.{Together, Call, done, run, Alike, tick-alike, ticks-alike, write-alike, expand-alike, compares-alike, place-controls-alike, place-display-alike, late-alike, Pairwise, none, more, Same, NeverMovesACycle, Answered}
 use Rattle.artwork.proofs.Shared.{control-1-same, control-2-same}
 

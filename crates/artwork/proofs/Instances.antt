@@ -8,19 +8,20 @@ use lib.IntN.{pos}
 use lib.ListN.{replicate, length-replicate}
 use Rattle.laws.specs.Bits.{hasBit}
 use Rattle.laws.specs.Lists.{zeros}
+use Rattle.memory.specs.Lent.{Host, host, lentRefusal}
+use Rattle.memory.proofs.Lent.{lent-legal, lent-bank}
 use Rattle.registers.specs.Read.{controlAt, readOf}
 use Rattle.timing.specs.Beam as Beams
 use Rattle.side.specs.declared.Side.{Side}
 use Rattle.side.specs.Turn.{freshSide}
 use Rattle.side.proofs.Kept.{fresh-fine}
-use Rattle.sequencer.specs.declared.Chip.{Chip}
-use Rattle.sequencer.specs.declared.Answer.{Answer}
-use Rattle.sequencer.specs.Chip.{Host, host, timed, powered}
-use Rattle.sequencer.specs.Accept.{clockFine}
-use Rattle.sequencer.specs.Tick.{lentRefusal}
-use Rattle.sequencer.specs.Calls.{registerRead}
-use Rattle.sequencer.proofs.Sides.{lent-legal, lent-bank}
-use Rattle.sequencer.proofs.Kept.{powered-accepted, fine-accepted}
+use Rattle.chip.specs.declared.Chip.{Chip}
+use Rattle.chip.specs.declared.Answer.{Answer}
+use Rattle.registers.specs.Control.{timed}
+use Rattle.chip.specs.Chip.{powered}
+use Rattle.chip.specs.Accept.{clockFine}
+use Rattle.calls.specs.Calls.{registerRead}
+use Rattle.chip.proofs.Fine.{powered-accepted, fine-accepted}
 use Rattle.artwork.specs.Runs.{Together, Call, tick, ticks, write, expand, compares, place-controls, place-display, late, run, timingWrite, Alike, tick-alike, ticks-alike, write-alike, expand-alike, compares-alike, place-controls-alike, place-display-alike, late-alike, Pairwise, none, more}
 use Rattle.artwork.proofs.Artwork.{artwork-never-moves-a-cycle, charted}
 

@@ -7,28 +7,31 @@ use lib.IntN.{ℤ, pos, negsuc}
 use Rattle.laws.specs.Bits.{hasBit, withBit, withoutBit}
 use Rattle.laws.specs.Lists.{zeros}
 use Rattle.laws.specs.Pick.{pick}
+use Rattle.memory.specs.Lent.{Host, lentRefusal}
 use Rattle.registers.specs.Registers.{latch, written}
 use Rattle.registers.specs.Irq.{quiet, asked, settled, triggered, irqWritten}
 use Rattle.schedule.specs.Diagram.{happens, pointerTime, dataTime}
 use Rattle.schedule.specs.Requests.{maskAt}
-use Rattle.timing.specs.Beam.{badLine, baOutput, nextCycle, atLastLine, nextLine}
+use Rattle.timing.specs.Beam.{badLine, latched, baOutput, nextCycle, atLastLine, nextLine, beamTurned}
+use Rattle.timing.specs.Beam as Beams
+use Rattle.timing.specs.Set.{cycle≔, raster≔, den≔, latch≔}
 use Rattle.border.specs.Border as Borders
 use Rattle.sprites.specs.Sprites as Sprites
 use Rattle.sprites.specs.Fine.{fineTest}
 use Rattle.arbitration.specs.Bus as Buses
-use Rattle.access.specs.declared.Pending.the-variants.{Nothing}
+use Rattle.rows.specs.declared.Pending.the-variants.{Nothing}
 use Rattle.side.specs.declared.Side.{Side}
-use Rattle.side.specs.Frame.{swept, rasterBegun, frameBegun, frameEnded, raised}
-use Rattle.side.specs.Rows.{freshRows}
+use Rattle.raster.specs.Frame as Frames
+use Rattle.rows.specs.Rows as Rows
 use Rattle.side.specs.Phases as Phases
-use Rattle.side.specs.Fine.{vmliLimit}
+use Rattle.rows.specs.Fine.{vmliLimit}
 use Rattle.side.specs.Turn.{turned}
-use Rattle.sequencer.specs.declared.Chip.{Chip}
-use Rattle.sequencer.specs.declared.Answer.{Answer}
-use Rattle.sequencer.specs.Chip.{Host, timed}
-use Rattle.sequencer.specs.Accept.{accepted, aecFine, clockFine, tickable, placeFine}
-use Rattle.sequencer.specs.Tick.{lentRefusal}
-use Rattle.sequencer.specs.Calls.{registerWritten, expandAt, controlsPlaced, displayPlaced}
+use Rattle.chip.specs.declared.Chip.{Chip}
+use Rattle.chip.specs.declared.Answer.{Answer}
+use Rattle.registers.specs.Control.{timed}
+use Rattle.chip.specs.Accept.{accepted, aecFine, clockFine, placeFine}
+use Rattle.sequencer.specs.Tick.{tickable}
+use Rattle.calls.specs.Calls.{registerWritten, expandAt, controlsPlaced, displayPlaced}
 use Rattle.sequencer.proofs.Sides.{tick-taken, tick-side, tick-bank, tick-unaccepted}
 use Rattle.artwork.specs.Runs.{Call, tick, write, expand, place-controls, place-display, done}
 use Rattle.artwork.proofs.Instances.{filled, filled-low, filled-high, filled-above}
@@ -40,12 +43,12 @@ chipForced forced cycle raster =
       regs = record { mx = zeros 8; my = 100 ∷ zeros 7; cols = zeros 8; bg = zeros 4; msbx = 0; enable = 1; yexp = 0; xexp = 0; prio = 0; multi = 0; mc0 = 0; mc1 = 0; ctrl1 = 0x10; ctrl2 = 0; compare = 0; ptrs = 0; border = 0 };
       side = record {
         irq = quiet;
-        beam = record { cycle = cycle; raster = raster; den = true; rsel = false; yscroll = 0; bad = false; rising = false; ba = true };
-        frame = record { ending = false; matched = false; latch = true };
+        beam = cycle≔ cycle (raster≔ raster (den≔ true (latch≔ true Beams.fresh)));
+        frame = Frames.fresh;
         border = record { vertical = false; main = false; old = false; disabled = false; part40 = 0; part38 = 0; top = 55; bottom = 247 };
         sprites = Sprites.allFresh;
         bus = Buses.fresh;
-        rows = freshRows;
+        rows = Rows.fresh;
         pending = Nothing;
         changed = false;
       };
@@ -85,8 +88,8 @@ pub record Needed (h : Host) : Type 0 where
   pub yexp-0 : after h (expand 0) (chipAt 54 50) .sprites .flip ≡ 0xFF
   pub yexp-1 : after h (expand 1) (chipAt 54 50) .sprites .flip ≡ 0xFE
   -- DEN, as line 0x30 begins: it is latched, or not
-  pub den-1 : after h (place-controls 0x10 0 0) (chipAt 63 0x2F) .frame .latch ≡ true
-  pub den-0 : after h (place-controls 0x00 0 0) (chipAt 63 0x2F) .frame .latch ≡ false
+  pub den-1 : after h (place-controls 0x10 0 0) (chipAt 63 0x2F) .beam .latch ≡ true
+  pub den-0 : after h (place-controls 0x00 0 0) (chipAt 63 0x2F) .beam .latch ≡ false
   -- RSEL, in every cycle: the beam has it
   pub rsel-1 : after h (place-controls 0x18 0 0) (chipAt 11 100) .beam .rsel ≡ true
   pub rsel-0 : after h (place-controls 0x10 0 0) (chipAt 11 100) .beam .rsel ≡ false
@@ -108,7 +111,7 @@ unfolding done
 seen see h x c l e t = ap see (ap (λ (r : Answer). r .chip .side) (tick-taken h (done x c .chip) l e t) ∙ tick-side h (done x c .chip))
 
 pub needed : (h : Host) → lentRefusal h ≡ 0 → Needed h
-unfolding done registerWritten expandAt controlsPlaced timed accepted aecFine clockFine tickable placeFine fineTest vmliLimit turned hasBit withBit withoutBit pick latch written asked settled triggered irqWritten happens pointerTime dataTime maskAt badLine baOutput nextCycle atLastLine nextLine Borders.right38Passed Sprites.allFresh Sprites.fresh Sprites.spriteAt Sprites.upTo Sprites.dmaBegun Sprites.startOne Sprites.started Sprites.firstPhased Sprites.clearAfter Sprites.flipAfter Sprites.expandWritten Buses.fresh Buses.spriteAsks Buses.requested Buses.arbitrated swept rasterBegun frameBegun frameEnded raised freshRows Phases.beginAt Phases.left40At Phases.left38At Phases.right38At Phases.right40At Phases.rememberAt Phases.endAt Phases.bordered Phases.stepAt Phases.firstAt Phases.secondAt Phases.loadAt Phases.phased Phases.slotMoved
+unfolding done registerWritten expandAt controlsPlaced timed accepted aecFine clockFine tickable placeFine fineTest vmliLimit turned hasBit withBit withoutBit pick latch written asked settled triggered irqWritten happens pointerTime dataTime maskAt badLine latched baOutput nextCycle atLastLine nextLine beamTurned Beams.fresh Borders.right38Passed Sprites.allFresh Sprites.fresh Sprites.spriteAt Sprites.upTo Sprites.dmaBegun Sprites.startOne Sprites.started Sprites.firstPhased Sprites.clearAfter Sprites.flipAfter Sprites.expandWritten Buses.fresh Buses.spriteAsks Buses.requested Buses.arbitrated Frames.fresh Frames.swept Frames.rasterBegun Frames.matchRaises Frames.frameBegun Frames.frameEnded Frames.raised Rows.fresh Phases.beginAt Phases.left40At Phases.left38At Phases.right38At Phases.right40At Phases.rememberAt Phases.endAt Phases.bordered Phases.stepAt Phases.firstAt Phases.secondAt Phases.loadAt Phases.phased Phases.slotMoved
 needed h l =
     record {
       yscroll-0 = seen (λ (s : Side). s .bus .balow) h (place-controls 0x10 0 0) (chipAt 11 0x30) l refl refl;
@@ -123,14 +126,14 @@ needed h l =
       compare-102 = seen (λ (s : Side). s .irq .flags) h (write 0x12 102) (chipAt 63 100) l refl refl;
       yexp-0 = seen (λ (s : Side). s .sprites .flip) h (expand 0) (chipAt 54 50) l refl refl;
       yexp-1 = seen (λ (s : Side). s .sprites .flip) h (expand 1) (chipAt 54 50) l refl refl;
-      den-1 = seen (λ (s : Side). s .frame .latch) h (place-controls 0x10 0 0) (chipAt 63 0x2F) l refl refl;
-      den-0 = seen (λ (s : Side). s .frame .latch) h (place-controls 0x00 0 0) (chipAt 63 0x2F) l refl refl;
+      den-1 = seen (λ (s : Side). s .beam .latch) h (place-controls 0x10 0 0) (chipAt 63 0x2F) l refl refl;
+      den-0 = seen (λ (s : Side). s .beam .latch) h (place-controls 0x00 0 0) (chipAt 63 0x2F) l refl refl;
       rsel-1 = seen (λ (s : Side). s .beam .rsel) h (place-controls 0x18 0 0) (chipAt 11 100) l refl refl;
       rsel-0 = seen (λ (s : Side). s .beam .rsel) h (place-controls 0x10 0 0) (chipAt 11 100) l refl refl;
     }
 
 pub refused : Refused
-unfolding done displayPlaced accepted aecFine clockFine tickable placeFine fineTest vmliLimit pick happens Sprites.allFresh Sprites.fresh Sprites.spriteAt Buses.fresh freshRows
+unfolding done displayPlaced accepted aecFine clockFine tickable placeFine fineTest vmliLimit pick happens Sprites.allFresh Sprites.fresh Sprites.spriteAt Buses.fresh Beams.fresh Frames.fresh Rows.fresh
 refused =
     record {
       bank-3 = ap number (tick-taken (filled 0 3) (chipAt 11 100) (filled-high 0) refl refl);

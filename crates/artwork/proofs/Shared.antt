@@ -4,12 +4,11 @@ use mathlib.Core.Path.{_≡_, sym, ap, _∙_}
 use native.Mathlib.Omega.{arith}
 use lib.Dec.{eqb}
 use Rattle.laws.specs.Bits.{hasBit}
-use Rattle.registers.specs.Control.{DEN, RSEL, YSCROLL, CSEL}
+use Rattle.registers.specs.Control.{DEN, RSEL, YSCROLL, CSEL, timed}
 use Rattle.registers.specs.Read.{readControl, controlAt, readOf}
-use Rattle.side.specs.Turn.{Controls}
-use Rattle.sequencer.specs.declared.Chip.{Chip}
-use Rattle.sequencer.specs.Chip.{timed}
-use Rattle.sequencer.specs.Calls.{registerRead}
+use Rattle.registers.specs.declared.Controls.{Controls}
+use Rattle.chip.specs.declared.Chip.{Chip}
+use Rattle.calls.specs.Calls.{registerRead}
 use Rattle.artwork.specs.Runs.{Together, Control1, Control2}
 
 -- what a read of 0x16 shows

@@ -6,14 +6,15 @@ use mathlib.Core.List.{List, [], _∷_}
 use lib.Dec.{eqb, ltb}
 use lib.IntN.{ℤ}
 use Rattle.laws.specs.Bits.{hasBit}
-use Rattle.registers.specs.Control.{DEN, RSEL, YSCROLL, CSEL}
+use Rattle.memory.specs.Lent.{Host, lentRefusal}
+use Rattle.registers.specs.Control.{DEN, RSEL, YSCROLL, CSEL, timed}
 use Rattle.registers.specs.Registers.{one-of, between}
-use Rattle.sequencer.specs.declared.Chip.{Chip}
-use Rattle.sequencer.specs.declared.Answer.{Answer}
-use Rattle.sequencer.specs.Chip.{Host, timed}
-use Rattle.sequencer.specs.Accept.{accepted, clockFine}
-use Rattle.sequencer.specs.Tick.{lentRefusal, answer, ticked, ticksFrom}
-use Rattle.sequencer.specs.Calls.{registerRead, registerWritten, expandAt, comparesBy, controlsPlaced, displayPlaced, lateTaken, phi1, dmaCount}
+use Rattle.chip.specs.declared.Chip.{Chip}
+use Rattle.chip.specs.declared.Answer.{Answer}
+use Rattle.chip.specs.Chip.{answer}
+use Rattle.chip.specs.Accept.{accepted, clockFine}
+use Rattle.sequencer.specs.Tick.{ticked, ticksFrom}
+use Rattle.calls.specs.Calls.{registerRead, registerWritten, expandAt, comparesBy, controlsPlaced, displayPlaced, lateTaken, phi1, dmaCount}
 
 -- 01, Timing side and picture side: the timing side is the chip's field `side`, whole, the interrupt and the pending place with it.
 -- The timing registers are what `timed` takes from the file: of ctrl1 bits 0..4 (YSCROLL 0..2, RSEL 3, DEN 4), of ctrl2 bit 3 (CSEL),

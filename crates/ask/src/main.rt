@@ -11,9 +11,9 @@
 //   7  place display: a, b, c and d mod 2, forced clock e to l            the refusal, the scene afterwards
 ghost use mathlib.Core.Path.{_≡_};
 ghost use lib.ListN.{length};
+use chip::Chip;
 use libc::STDIN_FILENO;
 use libc::STDOUT_FILENO;
-use sequencer::Chip;
 
 fn word(low: u8, high: u8) -> u16 {
     low as u16 + high as u16 * 256
@@ -100,7 +100,7 @@ fn display(chip: Chip, head: [u8; 13]) -> bool {
         long(head[5], head[6], head[7], head[8]),
         long(head[9], head[10], head[11], head[12]),
     );
-    let answer = sequencer::place_display(
+    let answer = calls::place_display(
         chip,
         odd(head[1]),
         odd(head[2]),
@@ -117,7 +117,7 @@ fn display(chip: Chip, head: [u8; 13]) -> bool {
 }
 
 fn register(chip: Chip, address: u16, x: u8, y: u8) -> bool {
-    let byte = [sequencer::read_register(chip, address, x, y)];
+    let byte = [calls::read_register(chip, address, x, y)];
     io::write_all(STDOUT_FILENO, &byte)
 }
 
@@ -126,7 +126,7 @@ fn plain(head: [u8; 13], memories: &[u8]) -> bool
     requires { ⌜ length (now memories) ≡ 21504 ⌝ }
 {
     if head[0] == 0 {
-        return show(sequencer::power_up());
+        return show(chip::power_up());
     }
     if head[0] == 1 {
         return masks(word(head[1], head[2]));
@@ -161,7 +161,7 @@ fn about(head: [u8; 13]) -> bool {
     let chip = decoded.chip;
     let address = word(head[1], head[2]);
     if head[0] == 5 {
-        return show(sequencer::write_register(chip, address, head[3]));
+        return show(calls::write_register(chip, address, head[3]));
     }
     if head[0] == 6 {
         return register(chip, address, head[3], head[4]);

@@ -1,6 +1,6 @@
 // Three frames from power-up: the cycle, the raster line and the clock, as they are counted on paper.
+use chip::Answer;
 use libc::STDOUT_FILENO;
-use sequencer::Answer;
 
 fn space(fd: i32) {
     io::write_all(fd, b" ");
@@ -34,7 +34,7 @@ fn main() {
     let ram = [0u8; 16384];
     let rom = [0u8; 4096];
     let colour = [0u8; 1024];
-    let start = sequencer::power_up();
+    let start = chip::power_up();
     show(sequencer::ticks(start, &ram, &rom, &colour, 0, 63));
     show(sequencer::ticks(start, &ram, &rom, &colour, 0, 19656));
     show(sequencer::ticks(start, &ram, &rom, &colour, 0, 58968));

@@ -4,8 +4,8 @@ use mathlib.Core.Bool.{Bool, true, false, cond}
 use native.Mathlib.Omega.{arith}
 use Rattle.laws.specs.Bits.{onesBelow, hasBit}
 use Rattle.schedule.specs.Requests.{spritesIn}
-use Rattle.sequencer.specs.declared.Chip.{Chip}
-use Rattle.sequencer.specs.Calls.{dmaCount}
+use Rattle.chip.specs.declared.Chip.{Chip}
+use Rattle.calls.specs.Calls.{dmaCount}
 
 one : (b : Bool) → cond b 1 0 ≤ 1
 one true = omega arith

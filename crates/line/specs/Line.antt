@@ -1,8 +1,8 @@
 -- What the chart says of a tick.
 use Prim.Native.Nat.{ℕ, _%_}
 use mathlib.Core.Bool.{Bool, cond}
-use Rattle.sequencer.specs.declared.Chip.{Chip}
-use Rattle.sequencer.specs.Calls.{dmaCount}
+use Rattle.chip.specs.declared.Chip.{Chip}
+use Rattle.calls.specs.Calls.{dmaCount}
 use Rattle.line.specs.declared.Eight.{Eight}
 
 -- 01, chart: 0 is low

@@ -3,10 +3,10 @@ ghost use mathlib.Core.Path.{_≡_};
 ghost use mathlib.Core.List.{[], _∷_};
 ghost use Prim.Native.Nat.{_+_, _≤_, _<_, _%_};
 ghost use lib.ListN.{length};
-ghost use Rattle.sequencer.specs.Calls.{dmaCount};
+ghost use Rattle.calls.specs.Calls.{dmaCount};
 ghost use Rattle.line.specs.Line.{levelOf, numbersOf};
 ghost use Rattle.line.specs.Text.{glyphOf, textOf, Written, fourOf, lineOf, stepsOf, refusedOf};
-use sequencer::Chip;
+use chip::Chip;
 
 // A tick's line: 0 is low.
 pub struct Eight {
@@ -33,7 +33,7 @@ fn level(low: bool) -> u16
 fn sprites(chip: Chip) -> u16
     ensures { λ r. ⌜ r ≡ dmaCount chip ⌝ }
 {
-    sequencer::sprite_count(chip) as u16
+    calls::sprite_count(chip) as u16
 }
 
 // The eight numbers of a chip after a tick.

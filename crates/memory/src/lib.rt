@@ -2,6 +2,7 @@
 ghost use mathlib.Core.Path.{_≡_};
 ghost use mathlib.Core.Bool.{Bool};
 ghost use Rattle.memory.specs.Memory.{Lent, inRom, readAt, blockRefusal, blockOf, blockPlace};
+ghost use Rattle.memory.specs.Lent.{host, lentRefusal};
 
 // What a read found.
 pub struct Found {
@@ -59,4 +60,24 @@ pub fn block<'a>(ram: &'a [u8], rom: &'a [u8], pointer: u8, bank: u8) -> &'a [u8
     }
     let at = start as usize;
     &ram[at..at + 64]
+}
+
+// The number of a lent memory's refusal: 1 for a length, 2 for a bank, 0 for none.
+pub fn lent_refusal(ram: &[u8], rom: &[u8], colour: &[u8], bank: u8) -> u8
+    ensures { λ r. ⌜ r ≡ lentRefusal (host (now (ram .entry)) (now (rom .entry)) (now (colour .entry)) bank) ⌝ }
+{
+    if ram.len() != 16384 {
+        return 1;
+    }
+    let characters = rom.len();
+    if characters != 4096 {
+        return 1;
+    }
+    if colour.len() != 1024 {
+        return 1;
+    }
+    if bank <= 3 {
+        return 0;
+    }
+    2
 }

@@ -5,9 +5,9 @@
 ghost use mathlib.Core.Path.{_≡_};
 ghost use lib.ListN.{length};
 ghost use Prim.Native.Nat.{_≤_};
+use chip::Chip;
 use libc::STDIN_FILENO;
 use libc::STDOUT_FILENO;
-use sequencer::Chip;
 
 fn single(chip: Chip, memories: &[u8], bank: u8) -> Chip
     requires { ⌜ length (now memories) ≡ 21504 ⌝ }
@@ -51,7 +51,7 @@ fn together(chip: Chip, memories: &[u8], bank: u8, n: u64) -> Chip
 fn step(chip: Chip, memories: &[u8], bank: u8, apart: bool, address: u8, value: u8, n: u64) -> Chip
     requires { ⌜ length (now memories) ≡ 21504 ⌝ }
 {
-    let written = sequencer::write_register(chip, address as u16, value);
+    let written = calls::write_register(chip, address as u16, value);
     if apart {
         return one_by_one(written, memories, bank, n);
     }

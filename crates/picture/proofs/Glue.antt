@@ -6,7 +6,7 @@ use mathlib.Core.List.{List}
 use lib.IntN.{ℤ}
 use borrow.Author.Tests.{not-true, not-false}
 use Rattle.laws.specs.Pick.{pick}
-use Rattle.schedule.specs.Diagram.{happens, graphicsCleared, lateIdle, mcLoad}
+use Rattle.schedule.specs.Diagram.{happens, graphicsCleared, lateIdle, pointerOf}
 use Rattle.memory.specs.Memory.{readAt}
 use Rattle.memory.specs.declared.Found.{Found}
 use Rattle.access.specs.declared.Latch.{Latch}
@@ -74,7 +74,7 @@ module _ (m : List ℕ) (o : Orders) (clock : ℤ) (p : Pen) (mode ptrs : ℕ) (
 module _ (p b w : List ℕ) (o : Orders) (ptrs : ℕ) (ram rom : List ℕ) (bank : ℕ) where
   pub pointed : {p' b' : List ℕ} {first : Bool}
       → o .pointing ≡ true
-      → first ≡ happens mcLoad (o .cycle)
+      → first ≡ happens (pointerOf 0) (o .cycle)
       → p' ≡ pointersAfter p (o .sprite) ptrs ram rom bank
       → b' ≡ byteTwoAfter b (o .sprite) first (o .mask && o .flag) (o .mc) (o .low) ptrs ram rom bank
       → (p' ≡ slotted p b w o ptrs ram rom bank .pointers) × ((b' ≡ slotted p b w o ptrs ram rom bank .bytes) × (w ≡ slotted p b w o ptrs ram rom bank .words))

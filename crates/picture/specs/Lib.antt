@@ -1,1 +1,2 @@
 pub mod Pen
+pub mod Set

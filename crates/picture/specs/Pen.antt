@@ -5,7 +5,7 @@ use mathlib.Core.List.{List}
 use lib.IntN.{ℤ, pos, negsuc}
 use lib.Dec.{eqb}
 use Rattle.laws.specs.Pick.{pick}
-use Rattle.schedule.specs.Diagram.{happens, graphicsCleared, lateIdle, mcLoad}
+use Rattle.schedule.specs.Diagram.{happens, graphicsCleared, lateIdle, pointerOf}
 use Rattle.memory.specs.Memory.{readAt}
 use Rattle.access.specs.Matrix.{filled}
 use Rattle.access.specs.Merge.{sinceOf, Merging, merging, latched}
@@ -71,7 +71,7 @@ slotted pointers bytes words o ptrs ram rom bank =
     cond (o .pointing)
     (record {
       pointers = pointersAfter pointers (o .sprite) ptrs ram rom bank;
-      bytes = byteTwoAfter bytes (o .sprite) (happens mcLoad (o .cycle)) (o .mask && o .flag) (o .mc) (o .low) ptrs ram rom bank;
+      bytes = byteTwoAfter bytes (o .sprite) (happens (pointerOf 0) (o .cycle)) (o .mask && o .flag) (o .mc) (o .low) ptrs ram rom bank;
       words = words;
     })
     (cond (o .fetching)

@@ -209,7 +209,7 @@ pub fn slot(
             pointers,
             bytes,
             k,
-            schedule::mc_load(o.cycle),
+            schedule::first_slot(o.cycle),
             o.mask & o.flag,
             o.mc,
             o.low,

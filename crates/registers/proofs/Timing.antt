@@ -11,6 +11,8 @@ use borrow.Author.Tests.{eqb-true, ltb-true, ltb-false, le-leb, lt-leb}
 use Rattle.laws.proofs.Below.{same-test}
 use Rattle.registers.specs.declared.Registers.{Registers}
 use Rattle.registers.specs.declared.Irq.{Irq}
+use Rattle.registers.specs.declared.Controls.{Controls}
+use Rattle.registers.specs.Control.{DEN, RSEL, YSCROLL, CSEL, timed}
 use Rattle.registers.specs.Registers.{one-of, between, latch, written}
 use Rattle.registers.specs.Read.{readOf, controlAt}
 use Rattle.registers.specs.Irq.{irqWritten, cleared, enabled}
@@ -130,3 +132,32 @@ module _ (g k : Registers) (i : Irq) (raster addr penx peny : ℕ) (other : show
       (λ f. choices (ltb reg 0x20) (λ t. control-read)
       (λ low. choices (ltb reg 0x27) (λ t. coloured low (omega (arith, ltb-true reg 0x27 t)))
       (λ f. choices (ltb reg 0x2F) (λ t. coloured low (ltb-true reg 0x2F t)) (λ f. refl))))
+
+-- two files with the same timing registers, one by one
+pub record SameFile (g k : Registers) : Type 0 where
+  pub den : DEN (g .ctrl1) ≡ DEN (k .ctrl1)
+  pub rsel : RSEL (g .ctrl1) ≡ RSEL (k .ctrl1)
+  pub yscroll : YSCROLL (g .ctrl1) ≡ YSCROLL (k .ctrl1)
+  pub csel : CSEL (g .ctrl2) ≡ CSEL (k .ctrl2)
+  pub compare : g .compare ≡ k .compare
+  pub my : g .my ≡ k .my
+  pub enable : g .enable ≡ k .enable
+  pub yexp : g .yexp ≡ k .yexp
+
+pub by-one : (g k : Registers) → timed g ≡ timed k → SameFile g k
+unfolding timed
+by-one g k e =
+    record {
+      den = ap (λ (t : Controls). t .den) e;
+      rsel = ap (λ (t : Controls). t .rsel) e;
+      yscroll = ap (λ (t : Controls). t .yscroll) e;
+      csel = ap (λ (t : Controls). t .csel) e;
+      compare = ap (λ (t : Controls). t .compare) e;
+      my = ap (λ (t : Controls). t .my) e;
+      enable = ap (λ (t : Controls). t .enable) e;
+      yexp = ap (λ (t : Controls). t .yexp) e;
+    }
+
+pub as-one : (g k : Registers) → SameFile g k → timed g ≡ timed k
+unfolding timed
+as-one g k s = simp (s .den, s .rsel, s .yscroll, s .csel, s .compare, s .my, s .enable, s .yexp)

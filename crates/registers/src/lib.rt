@@ -1,6 +1,6 @@
 // The register file and the interrupt latches, and what the control bits mean.
 ghost use mathlib.Core.Path.{_≡_};
-ghost use Rattle.registers.specs.Control.{DEN, RSEL, YSCROLL, CSEL, modeNumber};
+ghost use Rattle.registers.specs.Control.{DEN, RSEL, YSCROLL, CSEL, modeNumber, timed};
 ghost use Rattle.registers.specs.Irq.{quiet, settled, triggered, cleared, enabled, irqWritten};
 ghost use Rattle.registers.specs.Registers.{fresh, written, controlled, expanded};
 ghost use Rattle.registers.specs.Read.{readControl, readLatches, readColour, controlAt, colourAt, readOf};
@@ -326,5 +326,38 @@ impl Registers {
     {
         self.yexp = v;
         self
+    }
+}
+
+// ---- the timing registers
+
+// What the timing side of a tick reads of the register file.
+pub struct Controls {
+    pub den: bool,
+    pub rsel: bool,
+    pub yscroll: u8,
+    pub csel: bool,
+    pub compare: u16,
+    pub my: [u8; 8],
+    pub enable: u8,
+    pub yexp: u8,
+}
+
+pub fn timed(regs: Registers) -> Controls
+    ensures { λ r. ⌜ r ≡ timed regs ⌝ }
+{
+    let my = regs.my;
+    let shown = den(regs.ctrl1);
+    let rows = rsel(regs.ctrl1);
+    let columns = csel(regs.ctrl2);
+    Controls {
+        den: shown,
+        rsel: rows,
+        yscroll: yscroll(regs.ctrl1),
+        csel: columns,
+        compare: regs.compare,
+        my: my,
+        enable: regs.enable,
+        yexp: regs.yexp,
     }
 }

@@ -2,10 +2,10 @@
 // the refusal, the answer and the chip after it come out. The format is `Replay`.
 ghost use mathlib.Core.Path.{_≡_};
 ghost use lib.ListN.{length};
+use chip::Answer;
+use chip::Chip;
 use libc::STDIN_FILENO;
 use libc::STDOUT_FILENO;
-use sequencer::Answer;
-use sequencer::Chip;
 
 // What a call leaves: its refusal, its answer and the chip.
 struct Told {
@@ -59,19 +59,15 @@ fn odd(b: u8) -> bool {
 fn displayed(chip: Chip, a: u8, b: u8, c: u8, d: u8) -> Told {
     let side = chip.side;
     let bus = side.bus;
-    judged(sequencer::place_display(chip, odd(a), odd(b), odd(c), odd(d), bus.clock))
+    judged(calls::place_display(chip, odd(a), odd(b), odd(c), odd(d), bus.clock))
 }
 
 fn high_at_phi1(chip: Chip) -> u16 {
-    if sequencer::ba_high_at_phi1(chip) {
-        1
-    } else {
-        0
-    }
+    if calls::ba_high_at_phi1(chip) { 1 } else { 0 }
 }
 
 fn dma_count(chip: Chip) -> u16 {
-    (sequencer::sprite_count(chip) % 65536) as u16
+    (calls::sprite_count(chip) % 65536) as u16
 }
 
 // One call by its number; any other number is tested before.
@@ -82,25 +78,25 @@ fn perform(chip: Chip, memories: &[u8], call: u8, bank: u8, a: u8, b: u8, c: u8,
         return ticked(chip, memories, bank);
     }
     if call == 1 {
-        return plain(sequencer::write_register(chip, a as u16, b));
+        return plain(calls::write_register(chip, a as u16, b));
     }
     if call == 2 {
-        return plain(sequencer::write_y_expand(chip, a));
+        return plain(calls::write_y_expand(chip, a));
     }
     if call == 3 {
-        return judged(sequencer::place_controls(chip, a, b, c as u16 + d as u16 * 256));
+        return judged(calls::place_controls(chip, a, b, c as u16 + d as u16 * 256));
     }
     if call == 4 {
-        return judged(sequencer::late_byte(chip, a));
+        return judged(calls::late_byte(chip, a));
     }
     if call == 5 {
-        return plain(sequencer::border_compares(chip));
+        return plain(calls::border_compares(chip));
     }
     if call == 6 {
         return displayed(chip, a, b, c, d);
     }
     if call == 7 {
-        return valued(sequencer::read_register(chip, a as u16, b, c) as u16, chip);
+        return valued(calls::read_register(chip, a as u16, b, c) as u16, chip);
     }
     if call == 8 {
         return valued(high_at_phi1(chip), chip);

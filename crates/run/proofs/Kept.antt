@@ -3,13 +3,14 @@ use Prim.Native.Nat.{ℕ}
 use mathlib.Core.Path.{_≡_, refl}
 use mathlib.Core.Bool.{Bool, true, false, cond}
 use lib.Dec.{eqb, ltb}
+use Rattle.memory.specs.Lent.{Host}
 use Rattle.script.specs.declared.Step.{Step}
 use Rattle.script.specs.declared.Step.the-variants as step
-use Rattle.sequencer.specs.declared.Chip.{Chip}
-use Rattle.sequencer.specs.Accept.{accepted, clockFine}
-use Rattle.sequencer.specs.Chip.{Host}
-use Rattle.sequencer.specs.Tick.{answer, ticked, tickRefusal}
-use Rattle.sequencer.specs.Calls.{controlsPlaced, displayPlaced, lateTaken}
+use Rattle.chip.specs.declared.Chip.{Chip}
+use Rattle.chip.specs.Accept.{accepted, clockFine}
+use Rattle.chip.specs.Chip.{answer}
+use Rattle.sequencer.specs.Tick.{ticked, tickRefusal}
+use Rattle.calls.specs.Calls.{controlsPlaced, displayPlaced, lateTaken}
 use Rattle.run.specs.Run.{doneOf}
 
 -- a call that takes the chip or hands it back

@@ -1,12 +1,12 @@
 -- One step of a run file, on a chip and the bank.
 use Prim.Native.Nat.{ℕ}
+use Rattle.memory.specs.Lent.{Host}
 use Rattle.script.specs.declared.Step.{Step}
 use Rattle.script.specs.declared.Step.the-variants as step
-use Rattle.sequencer.specs.declared.Chip.{Chip}
-use Rattle.sequencer.specs.declared.Answer.{Answer}
-use Rattle.sequencer.specs.Chip.{Host}
+use Rattle.chip.specs.declared.Chip.{Chip}
+use Rattle.chip.specs.declared.Answer.{Answer}
 use Rattle.sequencer.specs.Tick.{ticked}
-use Rattle.sequencer.specs.Calls.{registerWritten, expandAt, comparesBy, controlsPlaced, displayPlaced, lateTaken}
+use Rattle.calls.specs.Calls.{registerWritten, expandAt, comparesBy, controlsPlaced, displayPlaced, lateTaken}
 use Rattle.run.specs.declared.Done.{Done}
 
 -- what a call answers, the bank as it was

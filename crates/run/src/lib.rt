@@ -1,11 +1,11 @@
 // A run file's step, done on a chip: one call of the sequencer, or another bank.
 ghost use mathlib.Core.Path.{_≡_};
-ghost use Rattle.sequencer.specs.Chip.{host};
+ghost use Rattle.memory.specs.Lent.{host};
 ghost use Rattle.run.specs.Run.{fromAnswer, fromChip, doneOf};
-ghost use Rattle.sequencer.specs.Calls.{displayPlaced};
+ghost use Rattle.calls.specs.Calls.{displayPlaced};
+use chip::Answer;
+use chip::Chip;
 use script::Step;
-use sequencer::Answer;
-use sequencer::Chip;
 
 // The number of the refusal, 0 for none, and the chip and the bank after the step.
 pub struct Done {
@@ -50,7 +50,7 @@ fn display(
 {
     let side = chip.side;
     let bus = side.bus;
-    let answer = sequencer::place_display(chip, shown, transition, access, changing, bus.clock);
+    let answer = calls::place_display(chip, shown, transition, access, changing, bus.clock);
     from_answer(answer, bank)
 }
 
@@ -61,16 +61,16 @@ pub fn step(chip: Chip, bank: u8, step: Step, ram: &[u8], rom: &[u8], colour: &[
     match step {
         Step::Tick => from_answer(sequencer::tick(chip, ram, rom, colour, bank), bank),
         Step::Write(address, value) => from_chip(
-            sequencer::write_register(chip, laws::wide(address), value),
+            calls::write_register(chip, laws::wide(address), value),
             bank,
         ),
-        Step::Expand(value) => from_chip(sequencer::write_y_expand(chip, value), bank),
+        Step::Expand(value) => from_chip(calls::write_y_expand(chip, value), bank),
         Step::Controls(ctrl1, ctrl2, compare) => from_answer(
-            sequencer::place_controls(chip, ctrl1, ctrl2, compare),
+            calls::place_controls(chip, ctrl1, ctrl2, compare),
             bank,
         ),
-        Step::Late(value) => from_answer(sequencer::late_byte(chip, value), bank),
-        Step::Borders => from_chip(sequencer::border_compares(chip), bank),
+        Step::Late(value) => from_answer(calls::late_byte(chip, value), bank),
+        Step::Borders => from_chip(calls::border_compares(chip), bank),
         Step::Display(shown, transition, access, changing) => display(
             chip,
             shown,

@@ -7,7 +7,7 @@ use borrow.Author.Tests.{lt-ltb}
 use Rattle.sprites.specs.declared.Sprite.{Sprite}
 use Rattle.sprites.specs.Set.{each≔}
 use Rattle.sprites.specs.Sprites.{spriteAt, none}
-use Rattle.sequencer.specs.declared.Chip.{Chip}
+use Rattle.chip.specs.declared.Chip.{Chip}
 use Rattle.scene.specs.Numbers.{byteAt, flagAt, pendingOf}
 use Rattle.scene.specs.Decode.{beamAt, registersAt, irqAt, borderAt, spritesAt, pointersAt, wordsAt, spriteBytesAt, rowsAt, busAt, frameAt, penAt, matrixAt, sideAt, pictureAt, chipAt, fieldsFine}
 use Rattle.scene.specs.Encode.{encoded}

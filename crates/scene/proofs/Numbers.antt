@@ -12,9 +12,9 @@ use mir.Val.{SFits, toZ, ofZ}
 use mir.Facts.{toZ-ofZ, ofZ-toZ, fits-ofZ}
 use Rattle.laws.specs.Bytes.{lowByte, highByte, word}
 use Rattle.laws.proofs.Choice.{by-test}
-use Rattle.access.specs.declared.Pending.{Pending}
-use Rattle.access.specs.declared.Pending.the-variants.{Nothing, At}
-use Rattle.access.specs.Matrix.{Pends}
+use Rattle.rows.specs.declared.Pending.{Pending}
+use Rattle.rows.specs.declared.Pending.the-variants.{Nothing, At}
+use Rattle.rows.specs.Pending.{Pends}
 use Rattle.scene.specs.Numbers.{long, bits, clockOf, countByte, aecOf, flagByte, flagOf, placeByte, pendingOf}
 
 -- ---- a number, its bytes, the number

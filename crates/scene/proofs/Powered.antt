@@ -8,7 +8,7 @@ use Rattle.sprites.specs.Sprites.{allFresh}
 use Rattle.arbitration.specs.Bus as Buses
 use Rattle.side.specs.Turn.{freshSide}
 use Rattle.picture.specs.Pen.{freshPen}
-use Rattle.sequencer.specs.Chip.{powered}
+use Rattle.chip.specs.Chip.{powered}
 use Rattle.scene.specs.Saved.{Saved}
 
 no-word : (n k : ℕ) → getD (zeros n) k 0 < 4294967296

@@ -7,7 +7,7 @@ use lib.Dec.{eqb}
 use lib.ListN.{length}
 use borrow.Author.Tests.{eqb-true}
 use Rattle.laws.proofs.Choice.{left, right}
-use Rattle.sequencer.specs.declared.Chip.{Chip}
+use Rattle.chip.specs.declared.Chip.{Chip}
 use Rattle.scene.specs.Decode.{chipAt, fieldsFine, noScene, decoded, decodedFields}
 use Rattle.scene.specs.Encode.{encoded}
 use Rattle.scene.specs.Saved.{Saved, Bytes}

@@ -11,13 +11,13 @@ use Rattle.border.specs.declared.Border.{Border}
 use Rattle.sprites.specs.declared.Sprite.{Sprite}
 use Rattle.sprites.specs.declared.Sprites.{Sprites}
 use Rattle.arbitration.specs.declared.Bus.{Bus}
-use Rattle.side.specs.declared.Frame.{Frame}
-use Rattle.side.specs.declared.Rows.{Rows}
+use Rattle.raster.specs.declared.Frame.{Frame}
+use Rattle.rows.specs.declared.Rows.{Rows}
 use Rattle.side.specs.declared.Side.{Side}
 use Rattle.picture.specs.declared.Pen.{Pen}
-use Rattle.sequencer.specs.declared.Picture.{Picture}
-use Rattle.sequencer.specs.declared.Chip.{Chip}
-use Rattle.sequencer.specs.Chip.{powered}
+use Rattle.chip.specs.declared.Picture.{Picture}
+use Rattle.chip.specs.declared.Chip.{Chip}
+use Rattle.chip.specs.Chip.{powered}
 use Rattle.scene.specs.declared.Decoded.{Decoded}
 use Rattle.scene.specs.Numbers.{byteAt, wordAt, longAt, clockAt, flagAt, aecOf, pendingOf}
 
@@ -34,6 +34,7 @@ beamAt s =
       den = flagAt s 8;
       rsel = flagAt s 9;
       yscroll = byteAt s 10;
+      latch = flagAt s 271;
       bad = flagAt s 11;
       rising = flagAt s 12;
       ba = flagAt s 13;
@@ -150,7 +151,7 @@ busAt s =
     }
 
 abbrev pub frameAt : List ℕ → Frame
-frameAt s = record { ending = flagAt s 272; matched = flagAt s 273; latch = flagAt s 271 }
+frameAt s = record { ending = flagAt s 272; matched = flagAt s 273 }
 
 abbrev pub penAt : List ℕ → Pen
 penAt s =

@@ -14,12 +14,12 @@ use Rattle.sprites.specs.declared.Sprite.{Sprite}
 use Rattle.sprites.specs.declared.Sprites.{Sprites}
 use Rattle.sprites.specs.Sprites.{spriteAt}
 use Rattle.arbitration.specs.declared.Bus.{Bus}
-use Rattle.side.specs.declared.Frame.{Frame}
-use Rattle.side.specs.declared.Rows.{Rows}
+use Rattle.raster.specs.declared.Frame.{Frame}
+use Rattle.rows.specs.declared.Rows.{Rows}
 use Rattle.side.specs.declared.Side.{Side}
 use Rattle.picture.specs.declared.Pen.{Pen}
-use Rattle.sequencer.specs.declared.Picture.{Picture}
-use Rattle.sequencer.specs.declared.Chip.{Chip}
+use Rattle.chip.specs.declared.Picture.{Picture}
+use Rattle.chip.specs.declared.Chip.{Chip}
 use Rattle.scene.specs.Numbers.{bits, bitBytes, countByte, flagByte, placeByte}
 
 -- head: 'N' 'P' 'S' and the version; then timing
@@ -70,16 +70,16 @@ entryBytes m zero = []
 entryBytes m (suc n) = entryBytes m n ++ (lowByte (getD m n 0) ∷ highByte (getD m n 0) ∷ [])
 
 -- the rest, up to the AEC counter, which comes as its byte
-abbrev pub restBytes : Rows → Bus → Bool → Pen → Frame → ℕ → List ℕ
-restBytes r b changed p f aec =
+abbrev pub restBytes : Rows → Bus → Bool → Pen → Bool → Frame → ℕ → List ℕ
+restBytes r b changed p latch f aec =
     lowByte (r .vc) ∷ highByte (r .vc) ∷ lowByte (r .vcbase) ∷ highByte (r .vcbase) ∷ r .rc ∷ r .vmli
     ∷ flagByte (b .balow) ∷ flagByte (b .aeclow) ∷ flagByte changed
     ∷ flagByte (r .display) ∷ flagByte (r .transition) ∷ flagByte (r .access)
     ∷ p .mode ∷ p .old ∷ flagByte (p .changing) ∷ lowByte (p .ch) ∷ highByte (p .ch) ∷ lowByte (p .carry) ∷ highByte (p .carry) ∷ p .gfx
-    ∷ flagByte (f .latch) ∷ flagByte (f .ending) ∷ flagByte (f .matched) ∷ aec ∷ []
+    ∷ flagByte latch ∷ flagByte (f .ending) ∷ flagByte (f .matched) ∷ aec ∷ []
 
 abbrev pub restOf : Side → Pen → List ℕ
-restOf s p = restBytes (s .rows) (s .bus) (s .changed) p (s .frame) (countByte (s .bus .aec))
+restOf s p = restBytes (s .rows) (s .bus) (s .changed) p (s .beam .latch) (s .frame) (countByte (s .bus .aec))
 
 abbrev pub clockBytes : ℤ → List ℕ
 clockBytes z = bitBytes (bits z)

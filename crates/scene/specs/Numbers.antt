@@ -8,8 +8,8 @@ use lib.ListN.{getD}
 use mir.Syntax.{w8, w64}
 use mir.Val.{toZ, ofZ, boolByte}
 use Rattle.laws.specs.Bytes.{word}
-use Rattle.access.specs.declared.Pending.{Pending}
-use Rattle.access.specs.declared.Pending.the-variants.{Nothing, At}
+use Rattle.rows.specs.declared.Pending.{Pending}
+use Rattle.rows.specs.declared.Pending.the-variants.{Nothing, At}
 
 -- FORMATS, Scene: a number of four bytes
 abbrev pub longBytes : ℕ → List ℕ

@@ -5,8 +5,8 @@ use mathlib.Core.List.{List}
 use lib.ListN.{length, getD}
 use mir.Syntax.{w8, w64}
 use mir.Val.{SFits}
-use Rattle.access.specs.Matrix.{Pends}
-use Rattle.sequencer.specs.declared.Chip.{Chip}
+use Rattle.rows.specs.Pending.{Pends}
+use Rattle.chip.specs.declared.Chip.{Chip}
 use Rattle.scene.specs.Numbers.{byteAt}
 
 -- Both modes are below 8 and the pending place is on the line. The rest holds of every chip that a program has, by its types: its arrays have their lengths,

@@ -8,16 +8,16 @@ ghost use Rattle.laws.specs.Bytes.{lowByte, highByte};
 ghost use Rattle.scene.specs.Numbers.{bits, clockOf, countByte, aecOf, placeByte, pendingOf, wordAt, longAt, clockAt};
 ghost use Rattle.scene.specs.Decode.{eightAt, beamAt, registersAt, irqAt, borderAt, spriteFrom, spritesAt, pointersAt, wordsAt, spriteBytesAt, matrixAt, rowsAt, busAt, frameAt, penAt, sideAt, pictureAt, chipAt, headFine, earlyFlags, spriteFlags, lateFlags, rangesFine, fieldsFine, noScene, decodedFields, decoded};
 ghost use Rattle.scene.specs.Encode.{headBytes, registerBytes, maskBytes, spriteBytes, spriteRow, spriteRows, entryBytes, restOf, clockBytes, clocksBytes, restBytes, encoded, Put};
-use access::Pending;
 use arbitration::Bus;
 use border::Border;
+use chip::Chip;
+use chip::Picture;
 use picture::Pen;
+use raster::Frame;
 use registers::Irq;
 use registers::Registers;
-use sequencer::Chip;
-use sequencer::Picture;
-use side::Frame;
-use side::Rows;
+use rows::Pending;
+use rows::Rows;
 use side::Side;
 use sprites::Sprite;
 use sprites::Sprites;
@@ -152,6 +152,7 @@ fn beam_at(bytes: &[u8]) -> Beam
         bad: bytes[11] == 1,
         rising: bytes[12] == 1,
         ba: bytes[13] == 1,
+        latch: bytes[271] == 1,
     }
 }
 
@@ -356,7 +357,6 @@ fn frame_at(bytes: &[u8]) -> Frame
     Frame {
         ending: bytes[272] == 1,
         matched: bytes[273] == 1,
-        latch: bytes[271] == 1,
     }
 }
 
@@ -495,7 +495,7 @@ fn chip_at(bytes: &[u8]) -> Chip
 fn no_scene() -> Decoded
     ensures { λ r. ⌜ r ≡ noScene ⌝ }
 {
-    let fresh = sequencer::power_up();
+    let fresh = chip::power_up();
     Decoded {
         scene: false,
         chip: fresh,
@@ -651,8 +651,8 @@ fn sprite_bytes(s: Sprite, pointer: u8, word: u32, b0: u8, b1: u8, b2: u8) -> [u
 }
 
 // What stands before the clocks; the AEC counter comes as its byte.
-fn rest_bytes(r: Rows, b: Bus, changed: bool, p: Pen, f: Frame, aec: u8) -> [u8; 24]
-    ensures { λ x. ⌜ x ≡ restBytes r b changed p f aec ⌝ }
+fn rest_bytes(r: Rows, b: Bus, changed: bool, p: Pen, latch: bool, f: Frame, aec: u8) -> [u8; 24]
+    ensures { λ x. ⌜ x ≡ restBytes r b changed p latch f aec ⌝ }
 {
     [
         (r.vc % 256) as u8,
@@ -675,7 +675,7 @@ fn rest_bytes(r: Rows, b: Bus, changed: bool, p: Pen, f: Frame, aec: u8) -> [u8;
         (p.carry % 256) as u8,
         (p.carry / 256) as u8,
         p.gfx,
-        f.latch as u8,
+        latch as u8,
         f.ending as u8,
         f.matched as u8,
         aec,
@@ -813,11 +813,12 @@ fn put_rest(out: &mut [u8], s: Side, pen: Pen)
     requires { ⌜ length (now out) ≡ 308 ⌝ }
     ensures { λ r. ⌜ Put (now (out .entry)) (now (out .exit)) 251 275 (restOf s pen) ⌝ }
 {
+    let beam = s.beam;
     let rows = s.rows;
     let bus = s.bus;
     let frame = s.frame;
     let aec = count_byte(bus.aec);
-    let part = rest_bytes(rows, bus, s.changed, pen, frame, aec);
+    let part = rest_bytes(rows, bus, s.changed, pen, beam.latch, frame, aec);
     put(out, 251, &part);
 }
 

@@ -7,7 +7,7 @@ use lib.Dec.{T, leb, leb→le}
 use Rattle.laws.proofs.Choice.{either}
 use Rattle.laws.proofs.Below as Below
 use Rattle.schedule.specs.Kind.{lastCycle}
-use Rattle.schedule.specs.Diagram.{happens, vcLoad, vmliCounts, graphicsAccess, slotSprite, slotBelow, onLine, during, diagram, pointerOf, dataOf}
+use Rattle.schedule.specs.Diagram.{happens, firstOf, vcLoad, characterAccess, vmliCounts, graphicsAccess, slotSprite, slotBelow, onLine, during, diagram, pointerOf, dataOf}
 
 below : (n c : ℕ) → slotBelow n c ≤ n
 below zero c = omega arith
@@ -30,7 +30,7 @@ load-alone c h e = rw e at (Below.same-test (λ k. happens vcLoad k && happens g
 
 -- how far VMLI may have counted after cycle c
 abbrev pub room : ℕ → ℕ
-room c = cond (happens vmliCounts c) (c - 15) 40
+room c = cond (happens vmliCounts c) (c - firstOf characterAccess) 40
 
 -- the room of cycle c, one more by a graphics access in cycle d, is within that of cycle d
 abbrev within : ℕ → ℕ → Bool

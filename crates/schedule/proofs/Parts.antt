@@ -9,6 +9,7 @@ use Rattle.laws.proofs.Below as Below
 use Rattle.laws.proofs.Choice.{left, right}
 use Rattle.schedule.specs.Diagram.{happens, lineBegins, frameEnds, vcLoad, accessChosen, characterAccess, graphicsAccess, accessEnds, rowEnds, mcbaseStep, firstPhase, secondPhase, mcLoad, mainRemembered, left40, left38, right38, right40, lineEnds, pointerTime, dataTime, slotSprite, slotAfterBus}
 use Rattle.schedule.specs.Requests.{maskAt}
+use Rattle.schedule.specs.Machinery.Stretches.{isLater, isPast, isEarly, isBetween, isCalm, isStill}
 
 -- two tests, and two numbers, that agree in the cycles where f holds
 module _ (f : ℕ → Bool) where
@@ -78,10 +79,10 @@ pub record Past (c : ℕ) : Type 0 where
   pub narrow : happens left38 c ≡ false
   pub kept : happens mainRemembered c ≡ false
 
-pub past : (c : ℕ) → c < 64 → ltb 18 c ≡ true → Past c
-unfolding happens
+pub past : (c : ℕ) → c < 64 → isPast c ≡ true → Past c
+unfolding happens isPast
 past c b e =
-    let g : ℕ → Bool = λ k. ltb 18 k in
+    let g : ℕ → Bool = λ k. isPast k in
     record {
       wide = never g (λ k. happens left40 k) tt c b e;
       narrow = never g (λ k. happens left38 k) tt c b e;
@@ -89,9 +90,9 @@ past c b e =
     }
 
 -- no sprite asks before the last graphics access
-pub no-request : (c : ℕ) → happens graphicsAccess c ≡ true → ltb c 55 ≡ true → maskAt c ≡ 0
-unfolding happens maskAt
-no-request c g e = equal (λ k. happens graphicsAccess k && ltb k 55) (λ k. maskAt k) (λ k. 0) tt c (lit-small c g) (rw (g, e))
+pub no-request : (c : ℕ) → happens graphicsAccess c ≡ true → isEarly c ≡ true → maskAt c ≡ 0
+unfolding happens maskAt isEarly
+no-request c g e = equal (λ k. happens graphicsAccess k && isEarly k) (λ k. maskAt k) (λ k. 0) tt c (lit-small c g) (rw (g, e))
 
 -- between the left compares and the last graphics access: nothing is stepped, nothing ends, and no sprite asks
 pub record Mid (c : ℕ) : Type 0 where
@@ -103,7 +104,7 @@ pub record Mid (c : ℕ) : Type 0 where
   pub asks : maskAt c ≡ 0
 
 pub mid : (c : ℕ) → (leb 19 c && leb c 54) ≡ true → Mid c
-unfolding happens maskAt
+unfolding happens maskAt isPast
 mid c e =
     let high : c ≤ 54 = leb→le c 54 (shown (leb c 54) (right (leb 19 c) (leb c 54) e)) in
     let low : 19 ≤ c = leb→le 19 c (shown (leb 19 c) (left (leb 19 c) (leb c 54) e)) in
@@ -144,10 +145,10 @@ pub record Later (c : ℕ) : Type 0 where
   pub begins : happens lineBegins c ≡ false
   pub wraps : happens frameEnds c ≡ false
 
-pub later : (c : ℕ) → c < 64 → ltb 2 c ≡ true → Later c
-unfolding happens
+pub later : (c : ℕ) → c < 64 → isLater c ≡ true → Later c
+unfolding happens isLater
 later c b e =
-    let g : ℕ → Bool = λ k. ltb 2 k in
+    let g : ℕ → Bool = λ k. isLater k in
     record {
       begins = never g (λ k. happens lineBegins k) tt c b e;
       wraps = never g (λ k. happens frameEnds k) tt c b e;
@@ -160,10 +161,10 @@ pub record Between (c : ℕ) : Type 0 where
   pub outer : happens right40 c ≡ false
   pub last : happens lineEnds c ≡ false
 
-pub between : (c : ℕ) → c < 64 → ((leb 2 c && leb c 55) || (leb 58 c && leb c 62)) ≡ true → Between c
-unfolding happens
+pub between : (c : ℕ) → c < 64 → isBetween c ≡ true → Between c
+unfolding happens isBetween
 between c b e =
-    let g : ℕ → Bool = λ k. (leb 2 k && leb k 55) || (leb 58 k && leb k 62) in
+    let g : ℕ → Bool = λ k. isBetween k in
     record {
       begins = never g (λ k. happens lineBegins k) tt c b e;
       inner = never g (λ k. happens right38 k) tt c b e;
@@ -176,10 +177,10 @@ pub record Calm (c : ℕ) : Type 0 where
   pub second : happens secondPhase c ≡ false
   pub load : happens mcLoad c ≡ false
 
-pub calm : (c : ℕ) → c < 64 → (leb c 15 || leb 59 c) ≡ true → Calm c
-unfolding happens
+pub calm : (c : ℕ) → c < 64 → isCalm c ≡ true → Calm c
+unfolding happens isCalm
 calm c b e =
-    let g : ℕ → Bool = λ k. leb k 15 || leb 59 k in
+    let g : ℕ → Bool = λ k. isCalm k in
     record {
       second = never g (λ k. happens secondPhase k) tt c b e;
       load = never g (λ k. happens mcLoad k) tt c b e;
@@ -194,10 +195,10 @@ pub record Still (c : ℕ) : Type 0 where
   pub character : happens characterAccess c ≡ false
   pub ends : happens rowEnds c ≡ false
 
-pub still : (c : ℕ) → c < 64 → ((leb 3 c && leb c 13) || leb 59 c) ≡ true → Still c
-unfolding happens
+pub still : (c : ℕ) → c < 64 → isStill c ≡ true → Still c
+unfolding happens isStill
 still c b e =
-    let g : ℕ → Bool = λ k. (leb 3 k && leb k 13) || leb 59 k in
+    let g : ℕ → Bool = λ k. isStill k in
     record {
       loads = never g (λ k. happens vcLoad k) tt c b e;
       chosen = never g (λ k. happens accessChosen k) tt c b e;

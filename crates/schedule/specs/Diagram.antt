@@ -1,6 +1,6 @@
 -- The timing diagram of a line (Bauer 3.6.3) as one table: each event and the cycles in which it happens.
--- The rules of the other crates name these events. A cycle's number stands in two of them alone: VMLI's limit counts from cycle 15 (`vmliLimit`), and the merge goes by the cycle mod 4 (DECISIONS 26).
-use Prim.Native.Nat.{ℕ, zero, suc}
+-- The rules of the other crates name these events and no cycle's number, but for the merge (DECISIONS 26), which forgets its carry in every fourth cycle.
+use Prim.Native.Nat.{ℕ, zero, suc, _-_}
 use mathlib.Core.Bool.{Bool, false, _&&_, _||_, cond}
 use lib.Dec.{eqb, leb}
 use Rattle.schedule.specs.Kind.{lastCycle, firstPointer, pointerSlot, dataSlot}
@@ -36,9 +36,10 @@ diagram rowEnds = at 58  -- Bauer 3.7.2 rule 5
 -- the sprites' counters
 diagram crunch = at 15  -- sprite_timing.rs: a Y-expand write that crunches
 diagram mcbaseStep = at 16  -- Bauer 3.8.1 rules 7 and 8; departs, DIFFERENCES 3
-diagram firstPhase = at 55  -- Bauer 3.8.1 rules 2 and 3
-diagram secondPhase = at 56  -- Bauer 3.8.1 rule 3
-diagram mcLoad = at firstPointer  -- Bauer 3.8.1 rule 4
+-- the sprites' comparisons go with sprite 0's pointer slot: three and two cycles before it, MC and display in it
+diagram firstPhase = at (firstPointer - 3)  -- Bauer 3.8.1 rules 2 and 3: cycle 55
+diagram secondPhase = at (firstPointer - 2)  -- Bauer 3.8.1 rule 3: cycle 56
+diagram mcLoad = at firstPointer  -- Bauer 3.8.1 rule 4: cycle 58
 -- the border's compares: X 24 and 31, 335 and 344 (Bauer 3.9)
 diagram mainRemembered = from 16 17  -- 01, tick 8
 diagram left40 = at 17
@@ -55,6 +56,21 @@ during (from a b) c = leb a c && leb c b
 
 unfoldable pub happens : Event → ℕ → Bool
 happens e c = during (diagram e) c
+
+-- the first cycle of an event, and its last
+abbrev pub firstIn : Cycles → ℕ
+firstIn (at n) = n
+firstIn (from a b) = a
+
+abbrev pub lastIn : Cycles → ℕ
+lastIn (at n) = n
+lastIn (from a b) = b
+
+abbrev pub firstOf : Event → ℕ
+firstOf e = firstIn (diagram e)
+
+abbrev pub lastOf : Event → ℕ
+lastOf e = lastIn (diagram e)
 
 -- a cycle of the line, and no other number
 abbrev pub onLine : ℕ → Bool
@@ -82,4 +98,4 @@ slotSprite c = cond (onLine c) (slotBelow 8 c) 0
 
 -- 01, tick 3, 4 and 8: in these cycles the slot comes after the cycle's arbitration; elsewhere it comes before (tick 5)
 unfoldable pub slotAfterBus : ℕ → Bool
-slotAfterBus c = during (diagram lineBegins) c || during (diagram frameEnds) c || during (diagram mcLoad) c
+slotAfterBus c = during (diagram lineBegins) c || during (diagram frameEnds) c || during (diagram (pointerOf 0)) c

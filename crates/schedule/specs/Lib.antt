@@ -1,3 +1,4 @@
 pub mod Kind
 pub mod Diagram
 pub mod Requests
+pub mod Machinery

@@ -3,8 +3,22 @@ ghost use mathlib.Core.Path.{_≡_};
 ghost use mathlib.Core.Bool.{Bool, cond};
 ghost use Prim.Native.Nat.{_+_, _-_, _<_};
 ghost use lib.Dec.{ltb};
-ghost use Rattle.schedule.specs.Diagram.{Event, lineBegins, frameEnds, matrixRequest, vcLoad, accessChosen, characterAccess, vmliCounts, graphicsAccess, lateIdle, accessEnds, graphicsCleared, rowEnds, crunch, mcbaseStep, firstPhase, secondPhase, mcLoad, mainRemembered, left40, left38, right38, right40, lineEnds, happens, pointerTime, dataTime, slotSprite, slotAfterBus};
+ghost use Rattle.schedule.specs.Diagram.{Event, lineBegins, frameEnds, matrixRequest, vcLoad, accessChosen, characterAccess, vmliCounts, graphicsAccess, lateIdle, accessEnds, graphicsCleared, rowEnds, crunch, mcbaseStep, firstPhase, secondPhase, mcLoad, mainRemembered, left40, left38, right38, right40, lineEnds, pointerOf, happens, pointerTime, dataTime, slotSprite, slotAfterBus};
 ghost use Rattle.schedule.specs.Requests.{maskAt, spritesIn};
+ghost use Rattle.schedule.specs.Machinery.Stretches.{isLater, isPast, isEarly, isBetween, isCalm, isStill};
+
+// Bauer 3.4, of the 6569: the cycles of a line are numbered from 1, the lines of a frame from 0.
+pub const LAST_CYCLE: u16 = 63;
+
+pub const LAST_LINE: u16 = 311;
+
+// The first character access, from which VMLI's limit counts.
+pub const FIRST_CHARACTER: u16 = 15;
+
+// A tick after these cycles may only count: the left compares are over, and a character access is still to come after it.
+pub const COUNTED_FROM: u16 = 18;
+
+pub const COUNTED_LAST: u16 = 52;
 
 // The sprites that ask, t cycles after sprite 0 begins to: each asks for five cycles, and begins two after the one before it.
 fn asking(t: u16) -> u8
@@ -81,7 +95,59 @@ pub fn slot_after_bus(cycle: u16) -> bool
     (cycle == 1) | (cycle == 2) | (cycle == 58)
 }
 
-// Each event of the diagram, as a test of the cycle.
+// Sprite 0's pointer slot.
+pub fn first_slot(cycle: u16) -> bool
+    ensures { λ r. ⌜ r ≡ happens (pointerOf 0) cycle ⌝ }
+{
+    cycle == 58
+}
+
+// ---- stretches of a line in which some events never happen
+
+// Past the line's begin and the frame's end.
+pub fn later(cycle: u16) -> bool
+    ensures { λ r. ⌜ r ≡ isLater cycle ⌝ }
+{
+    2 < cycle
+}
+
+// Past the left compares.
+pub fn past(cycle: u16) -> bool
+    ensures { λ r. ⌜ r ≡ isPast cycle ⌝ }
+{
+    18 < cycle
+}
+
+// Before the last graphics access.
+pub fn early(cycle: u16) -> bool
+    ensures { λ r. ⌜ r ≡ isEarly cycle ⌝ }
+{
+    cycle < 55
+}
+
+// Between the compares of a line's ends.
+pub fn between(cycle: u16) -> bool
+    ensures { λ r. ⌜ r ≡ isBetween cycle ⌝ }
+{
+    ((2 <= cycle) & (cycle <= 55)) | ((58 <= cycle) & (cycle <= 62))
+}
+
+// Away from the sprites' phases of a line's end.
+pub fn calm(cycle: u16) -> bool
+    ensures { λ r. ⌜ r ≡ isCalm cycle ⌝ }
+{
+    (cycle <= 15) | (59 <= cycle)
+}
+
+// Where no counter of a row moves.
+pub fn still(cycle: u16) -> bool
+    ensures { λ r. ⌜ r ≡ isStill cycle ⌝ }
+{
+    ((3 <= cycle) & (cycle <= 13)) | (59 <= cycle)
+}
+
+// ---- each event of the diagram, as a test of the cycle
+
 pub fn line_begins(cycle: u16) -> bool
     ensures { λ r. ⌜ r ≡ happens lineBegins cycle ⌝ }
 {
@@ -217,5 +283,5 @@ pub fn right40(cycle: u16) -> bool
 pub fn line_ends(cycle: u16) -> bool
     ensures { λ r. ⌜ r ≡ happens lineEnds cycle ⌝ }
 {
-    cycle == 63
+    cycle == LAST_CYCLE
 }

@@ -1,9 +1,7 @@
-pub mod Accepted
-pub mod Parts
+pub mod Clock
 pub mod Glue
 pub mod Kept
 pub mod Runs
 pub mod Staged
 pub mod Skip
-pub mod Only
 pub mod Sides

@@ -7,35 +7,25 @@ use native.Mathlib.Numerals.{add-one}
 use native.Mathlib.Nat.{zero-add, suc-add}
 use lib.Dec.{eqb}
 use lib.ListN.{length}
-use borrow.Author.Tests.{eqb-true, ne-eqb}
-use Rattle.laws.proofs.Choice.{passed}
-use Rattle.memory.specs.Memory.{Lent, blockRefusal}
-use Rattle.memory.proofs.Laws.{unrefused-lent}
+use borrow.Author.Tests.{ne-eqb}
+use Rattle.memory.proofs.Lent.{host-lent, host-colour}
+use Rattle.memory.specs.Lent.{Host, lentRefusal}
 use Rattle.registers.specs.declared.Registers.{Registers}
-use Rattle.sequencer.specs.declared.Chip.{Chip}
-use Rattle.sequencer.specs.declared.Answer.{Answer}
-use Rattle.sequencer.specs.Chip.{Host, World, chipOf}
-use Rattle.sequencer.specs.Accept.{accepted, tickable}
-use Rattle.sequencer.specs.Tick.{Ready, Held, tickWorld, lentRefusal, tickRefusal, answer, ticked, ticksFrom}
-use Rattle.sequencer.proofs.Accepted.{accepted-clock, accepted-forced, clock-fine-range, tickable-can}
+use Rattle.chip.specs.declared.Chip.{Chip}
+use Rattle.chip.specs.declared.Answer.{Answer}
+use Rattle.chip.specs.Accept.{accepted}
+use Rattle.chip.specs.Chip.{answer}
+use Rattle.sequencer.specs.World.{World, chipOf}
+use Rattle.sequencer.specs.Tick.{tickable, tickWorld, tickRefusal, ticked, ticksFrom}
+use Rattle.sequencer.specs.Machinery.Parts.{Ready, Held}
+use Rattle.chip.proofs.Accepted.{accepted-clock, accepted-forced, clock-fine-range}
+use Rattle.sequencer.proofs.Clock.{tickable-can}
 use Rattle.sequencer.proofs.Kept.{world-kept}
-
--- nothing lent is refused: the three lengths are right
-module _ (h : Host) (e : lentRefusal h ≡ 0) where
-  both : (eqb (length (h .colour)) 1024 ≡ true) × (blockRefusal (h .ram) (h .rom) (h .bank) ≡ 0)
-  unfolding lentRefusal
-  both = passed (eqb (length (h .colour)) 1024) (blockRefusal (h .ram) (h .rom) (h .bank)) e
-
-  lent : Lent (h .ram) (h .rom)
-  lent = unrefused-lent (h .ram) (h .rom) (h .bank) (both .1)
-
-  colour : length (h .colour) ≡ 1024
-  colour = eqb-true (length (h .colour)) 1024 (both .0)
 
 pub ready : {h : Host} {g : Registers} {w : World} → Held h g w → tickable (w .side .bus .clock) ≡ true → Ready h w
 ready {h} {g} {w} held t = record {
-  lent = lent h (held .free);
-  colour = colour h (held .free);
+  lent = host-lent h (held .free);
+  colour = host-colour h (held .free);
   forty = held .forty;
   eight = held .eight;
   threes = held .threes;

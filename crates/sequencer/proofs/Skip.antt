@@ -9,30 +9,31 @@ use lib.ListN.{length}
 use borrow.Author.Tests.{leb-true, le-leb, ltb-true, ltb-false, lt-ltb, le-ltb, not-true, not-false}
 use Rattle.laws.specs.Clock.{inRange, canTick}
 use Rattle.laws.proofs.Choice.{left, right, by-test}
+use Rattle.memory.specs.Lent.{Host}
 use Rattle.registers.specs.declared.Registers.{Registers}
-use Rattle.registers.specs.Control.{YSCROLL, modeNumber}
+use Rattle.registers.specs.Control.{YSCROLL, modeNumber, timed}
 use Rattle.schedule.specs.Diagram.{happens, graphicsAccess}
 use Rattle.schedule.proofs.Parts.{mid}
 use Rattle.timing.specs.Beam.{nextCycle}
 use Rattle.timing.proofs.Kept.{cycle-next}
-use Rattle.arbitration.specs.Bus.{clockAfter}
-use Rattle.arbitration.proofs.Kept.{clock-after}
+use Rattle.arbitration.specs.Bus.{clockOn}
+use Rattle.arbitration.proofs.Kept.{clock-on}
 use Rattle.side.specs.declared.Side.{Side}
 use Rattle.side.specs.declared.Turned.{Turned}
-use Rattle.side.specs.Leap.{onlyCounts, leapt}
+use Rattle.side.specs.Machinery.Leap.{onlyCounts, leapt}
 use Rattle.side.proofs.Counts.{Counts, counts, quiet, quiet-turn, counts-later, counts-on, quiet-later, leap-none}
-use Rattle.side.proofs.Laws.{limit-small}
+use Rattle.rows.proofs.Laws.{limit-small}
 use Rattle.side.proofs.Kept.{side-cycle}
 use Rattle.picture.specs.declared.Pen.{Pen}
 use Rattle.picture.specs.Pen.{penAfter}
 use Rattle.picture.proofs.Laws.{matrix-length, slotted-pointers, slotted-bytes, slotted-words, no-slot, changing-over}
 use Rattle.picture.proofs.Plain.{Plain, plain-matrix, pen-again}
 use Rattle.sequencer.specs.declared.Core.{Core}
-use Rattle.sequencer.specs.Chip.{Host, World, chipOf, timed}
-use Rattle.sequencer.specs.Tick.{Ready, Held, tickWorld}
-use Rattle.sequencer.specs.Parts.{Roomy}
-use Rattle.sequencer.specs.Skip.{skippableBy, skipped, worldLater}
-use Rattle.sequencer.proofs.Kept.{accepted-fine}
+use Rattle.sequencer.specs.World.{World, chipOf}
+use Rattle.sequencer.specs.Machinery.Parts.{Ready, Held, Roomy}
+use Rattle.sequencer.specs.Tick.{tickWorld}
+use Rattle.sequencer.specs.Machinery.Skip.{skippableBy, skipped, worldLater}
+use Rattle.chip.proofs.Fine.{accepted-fine}
 use Rattle.sequencer.proofs.Runs.{ready}
 use Rattle.sequencer.proofs.Staged.{Parting, tickable-now, further}
 
@@ -136,7 +137,7 @@ module _ (h : Host) (g : Registers) where
   later-none {w} held =
       let f = accepted-fine (chipOf g w) (held .fine) .side in
       ap (λ (s : Side). record { side = s; pen = w .pen; matrix = w .matrix; pointers = w .pointers; bytes = w .bytes; words = w .words })
-      (leap-none (w .side) (f .clock) (omega (arith, f .vc)) (omega (arith, f .vmli, limit-small (w .side .beam .cycle) (f .last))))
+      (leap-none (w .side) (f .clock) (omega (arith, f .rows .vc)) (omega (arith, f .rows .vmli, limit-small (w .side .beam .cycle) (f .last))))
 
 -- how many are counted before the one that is done: fewer than are left, and only where they may be
 module _ (able' : Bool) (cycle left' : ℕ) where
@@ -186,8 +187,8 @@ lit-later c (suc k) f e =
     let next = cycle-next (c + suc k) (omega arith) in
     rw next (mid (c + suc k + 1) (rw (le-leb 19 (c + suc k + 1) (omega arith), le-leb (c + suc k + 1) 54 (omega arith)) refl) .graphics)
 
-room-later : (k m : ℕ) (z : ℤ) → k < m → Roomy m z → canTick (clockAfter k z)
-room-later k m (pos n) l r = rw (clock-after k n) (omega arith)
+room-later : (k m : ℕ) (z : ℤ) → k < m → Roomy m z → canTick (clockOn k z)
+room-later k m (pos n) l r = rw (clock-on k n) (omega arith)
 room-later k m (negsuc n) l r = absurd r
 
 module _ (h : Host) (g : Registers) (goes : ℕ → Bool) (w₀ : World) (n : ℕ) where

@@ -10,15 +10,16 @@ use lib.Signed.{ltZ}
 use lib.ListN.{length}
 use borrow.Author.Tests.{le-leb, ltb-false}
 use Rattle.laws.specs.Clock.{lastTickable, canTick}
+use Rattle.memory.specs.Lent.{Host}
 use Rattle.registers.specs.declared.Registers.{Registers}
 use Rattle.side.proofs.Kept.{side-clock}
 use Rattle.arbitration.specs.Bus.{clockOn}
 use Rattle.arbitration.proofs.Kept.{clock-on}
-use Rattle.sequencer.specs.declared.Chip.{Chip}
-use Rattle.sequencer.specs.Chip.{Host, World, chipOf}
-use Rattle.sequencer.specs.Accept.{tickable}
-use Rattle.sequencer.specs.Tick.{Held, tickWorld, answer, ticksFrom}
-use Rattle.sequencer.specs.Parts.{Roomy, Part}
+use Rattle.chip.specs.declared.Chip.{Chip}
+use Rattle.chip.specs.Chip.{answer}
+use Rattle.sequencer.specs.World.{World, chipOf}
+use Rattle.sequencer.specs.Tick.{tickable, tickWorld, ticksFrom}
+use Rattle.sequencer.specs.Machinery.Parts.{Held, Roomy, Part}
 use Rattle.sequencer.proofs.Runs.{Going, none, begun, on}
 
 -- room for one more tick, and what is left after it
@@ -27,8 +28,8 @@ unfolding tickable
 room-now k (pos n) h r = le-leb n lastTickable (omega arith)
 room-now k (negsuc n) h r = absurd r
 
-room-next : (k : ℕ) (z : ℤ) → 0 < k → Roomy k z → Roomy (k - 1) (clockOn z)
-room-next k (pos n) h r = rw (clock-on n) (omega arith)
+room-next : (k : ℕ) (z : ℤ) → 0 < k → Roomy k z → Roomy (k - 1) (clockOn 1 z)
+room-next k (pos n) h r = rw (clock-on 1 n) (omega arith)
 room-next k (negsuc n) h r = absurd r
 
 -- how many ticks a part may do
@@ -42,7 +43,7 @@ fits-some k n (pos c) l m f t e =
     (l, (m, omega arith))
 fits-some k n (negsuc c) l m f t e = absurd t
 
-tick-clock : (h : Host) (g : Registers) (w : World) → tickWorld h g w .side .bus .clock ≡ clockOn (w .side .bus .clock)
+tick-clock : (h : Host) (g : Registers) (w : World) → tickWorld h g w .side .bus .clock ≡ clockOn 1 (w .side .bus .clock)
 unfolding tickWorld
 tick-clock h g w = side-clock _ (w .side)
 

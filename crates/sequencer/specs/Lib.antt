@@ -1,7 +1,3 @@
-pub mod Chip
-pub mod Accept
+pub mod World
 pub mod Tick
-pub mod Parts
-pub mod Skip
-pub mod Set
-pub mod Calls
+pub mod Machinery

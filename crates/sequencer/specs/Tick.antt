@@ -1,30 +1,19 @@
 -- The tick: its refusals, its definition, and a run of ticks.
 use Prim.Native.Nat.{ℕ, zero, suc}
-use mathlib.Core.Path.{_≡_}
-use mathlib.Core.Bool.{true, cond}
-use lib.Dec.{eqb}
-use lib.ListN.{length}
-use Rattle.laws.specs.Clock.{inRange, canTick}
-use Rattle.memory.specs.Memory.{Lent, blockRefusal}
+use mathlib.Core.Bool.{Bool, true, cond}
+use lib.Dec.{eqb, leb}
+use lib.IntN.{ℤ, pos, negsuc}
+use Rattle.laws.specs.Clock.{lastTickable}
+use Rattle.memory.specs.Lent.{Host, lentRefusal}
 use Rattle.registers.specs.declared.Registers.{Registers}
-use Rattle.registers.specs.Control.{modeNumber}
+use Rattle.registers.specs.Control.{modeNumber, timed}
 use Rattle.side.specs.Turn.{turned}
 use Rattle.picture.specs.Pen.{penAfter, matrixAfter, slotted}
-use Rattle.sequencer.specs.declared.Chip.{Chip}
-use Rattle.sequencer.specs.declared.Answer.{Answer}
-use Rattle.sequencer.specs.Chip.{Host, World, worldOf, chipOf, timed}
-use Rattle.sequencer.specs.Accept.{accepted, tickable}
-
--- what a step of a run may lean on: the lent lengths, the arrays' lengths, and clocks whose difference fits
-pub record Ready (h : Host) (w : World) : Type 0 where
-  pub lent : Lent (h .ram) (h .rom)
-  pub colour : length (h .colour) ≡ 1024
-  pub forty : length (w .matrix) ≡ 40
-  pub eight : length (w .pointers) ≡ 8
-  pub threes : length (w .bytes) ≡ 24
-  pub eightWords : length (w .words) ≡ 8
-  pub clock : canTick (w .side .bus .clock)
-  pub forced : inRange (w .pen .forced)
+use Rattle.chip.specs.declared.Chip.{Chip}
+use Rattle.chip.specs.declared.Answer.{Answer}
+use Rattle.chip.specs.Chip.{answer}
+use Rattle.chip.specs.Accept.{accepted}
+use Rattle.sequencer.specs.World.{World, worldOf, chipOf}
 
 -- 01, One tick: the timing side's step, then the picture's, by its orders
 unfoldable pub tickWorld : Host → Registers → World → World
@@ -46,17 +35,15 @@ tickWorld h g w =
 abbrev pub tickOf : Host → Chip → Chip
 tickOf h c = chipOf (c .regs) (tickWorld h (c .regs) (worldOf c))
 
--- 01, Numbers: as of a block, and 1 where the colour RAM has another length
-unfoldable pub lentRefusal : Host → ℕ
-lentRefusal h = cond (eqb (length (h .colour)) 1024) (blockRefusal (h .ram) (h .rom) (h .bank)) 1
+-- 01, Numbers: 4 is given where this fails, and only above the limit: below zero it is 3, as the state is not accepted
+unfoldable pub tickable : ℤ → Bool
+tickable (pos n) = leb n lastTickable
+tickable (negsuc n) = true
 
--- 01, Numbers: then 3 where the state is not accepted, 4 where the clock is above its limit; in number order
+-- 01, Numbers: what is lent first, then 3 where the state is not accepted, 4 where the clock is above its limit; in number order
 unfoldable pub tickRefusal : Host → Chip → ℕ
 tickRefusal h c =
     cond (eqb (lentRefusal h) 0) (cond (accepted c) (cond (tickable (c .side .bus .clock)) 0 4) 3) (lentRefusal h)
-
-abbrev pub answer : ℕ → Chip → Answer
-answer n c = record { refused = n; chip = c }
 
 -- a refused tick gives the state back unchanged
 unfoldable pub ticked : Host → Chip → Answer
@@ -68,12 +55,3 @@ ticksFrom h zero c = answer 0 c
 ticksFrom h (suc n) c =
     let before = ticksFrom h n c in
     cond (eqb (before .refused) 0) (ticked h (before .chip)) before
-
--- what a run holds from tick to tick: nothing lent is refused, the arrays keep their lengths, the state is accepted
-pub record Held (h : Host) (g : Registers) (w : World) : Type 0 where
-  pub free : lentRefusal h ≡ 0
-  pub forty : length (w .matrix) ≡ 40
-  pub eight : length (w .pointers) ≡ 8
-  pub threes : length (w .bytes) ≡ 24
-  pub eightWords : length (w .words) ≡ 8
-  pub fine : accepted (chipOf g w) ≡ true

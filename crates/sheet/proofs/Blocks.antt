@@ -16,7 +16,8 @@ use Rattle.run.specs.declared.Done.{Done}
 use Rattle.run.specs.Run.{doneOf}
 use Rattle.line.specs.Text.{Written}
 use Rattle.sheet.specs.declared.Run.{Run}
-use Rattle.sheet.specs.Sheet.{Store, hostOf, begunOf, cursorAt, runBy, saidDoing, runDoing, saidAt, runAt, storeAt, saidIn, runIn, storeIn}
+use Rattle.driver.specs.Driver.{Store, hostOf, madeBy, madeDoing, madeAt, storeAt, begunOf as driveBegun}
+use Rattle.sheet.specs.Sheet.{drivenOf, withText, begunOf, cursorAt, textOf, saidAt, runAt, saidIn, runIn, storeIn}
 use Rattle.sheet.specs.Fill.{Sheet, sheet, oneTurn, goes, turns, emptied, Filled, ahead}
 use Rattle.sheet.specs.Chart.{told, chartOf}
 use Rattle.sheet.proofs.Less.{keeps-cursor}
@@ -27,21 +28,25 @@ use Rattle.sheet.proofs.Loop.{never, is-going}
 abbrev bare : Run → Run
 bare r = record { chip = r .chip; cursor = startOf; at = 0; done = r .done; bank = r .bank; going = r .going }
 
+did-said : (r : Run) (s : Step) (d : Done) (fine : Bool) → eqb (d .refused) 0 ≡ fine → textOf (madeBy (drivenOf r) s d) ≡ textOf (madeBy (drivenOf (bare r)) s d)
+did-said r s d true e = simp e
+did-said r s d false e = simp e
+
 said-bare : (m : Store) (r : Run) (i : Item) → saidAt m r i ≡ saidAt m (bare r) i
-unfolding saidAt saidDoing
+unfolding saidAt madeAt madeDoing
 said-bare m r (item.Changes memory n) = refl
 said-bare m r (item.Change memory address value) = refl
 said-bare m r (item.Steps n) = refl
-said-bare m r (item.Do s) = refl
+said-bare m r (item.Do s) = did-said r s (doneOf (hostOf m (r .bank)) (r .chip) s) (eqb (doneOf (hostOf m (r .bank)) (r .chip) s .refused) 0) refl
 said-bare m r item.Done = refl
 said-bare m r (item.Refused number) = refl
 
-did-bare : (r : Run) (s : Step) (d : Done) (fine : Bool) → eqb (d .refused) 0 ≡ fine → bare (runBy r s d) ≡ bare (runBy (bare r) s d)
+did-bare : (r : Run) (s : Step) (d : Done) (fine : Bool) → eqb (d .refused) 0 ≡ fine → bare (withText (madeBy (drivenOf r) s d .run) 0) ≡ bare (withText (madeBy (drivenOf (bare r)) s d .run) 0)
 did-bare r s d true e = simp e
 did-bare r s d false e = simp e
 
 run-bare : (m : Store) (r : Run) (i : Item) → bare (runAt m r i) ≡ bare (runAt m (bare r) i)
-unfolding runAt runDoing
+unfolding runAt madeAt madeDoing
 run-bare m r (item.Changes memory n) = refl
 run-bare m r (item.Change memory address value) = refl
 run-bare m r (item.Steps n) = refl
@@ -89,7 +94,7 @@ over s m r g = simp g
 
 -- an item after which the run goes on is not the last
 not-last : (m : Store) (r : Run) (i : Item) → runAt m r i .going ≡ true → isLast i ≡ false
-unfolding runAt
+unfolding runAt madeAt
 not-last m r (item.Changes memory n) g = refl
 not-last m r (item.Change memory address value) g = refl
 not-last m r (item.Steps n) g = refl
@@ -174,5 +179,5 @@ block s m start out left r after f =
 
 -- 01, chart: at the start all of the chart is to come
 pub begins : (s : List ℕ) (m : Store) → toCome s m begunOf ≡ chartOf m s
-unfolding chartOf begunOf ahead startOf
+unfolding chartOf begunOf driveBegun ahead startOf
 begins s m = ap (λ l. told m begunOf l) (enough _ (length s + 1) s startOf (omega arith) (omega arith) ∙ whole s)

@@ -12,7 +12,8 @@ use Rattle.laws.proofs.Choice.{either}
 use Rattle.script.specs.Cursor.{startOf}
 use Rattle.line.specs.Text.{Written, pasted}
 use Rattle.sheet.specs.declared.Run.{Run}
-use Rattle.sheet.specs.Sheet.{Store, begunOf, runIn, storeIn}
+use Rattle.driver.specs.Driver.{Store, begunOf as driveBegun}
+use Rattle.sheet.specs.Sheet.{begunOf, runIn, storeIn}
 use Rattle.sheet.specs.Fill.{Sheet, sheet, oneTurn, goes, turns, emptied, Filled, ahead}
 use Rattle.sheet.specs.Chart.{chartOf, End, end, roomed, ended, endedOf, Ends}
 use Rattle.sheet.proofs.Less.{turn-less}
@@ -96,7 +97,7 @@ module _ (s : List ℕ) where
 
   -- from the start
   pub end-begins : (m : Store) → toEnd m begunOf ≡ endedOf m s
-  unfolding endedOf begunOf ahead startOf
+  unfolding endedOf begunOf driveBegun ahead startOf
   end-begins m = ap (λ (n : ℕ). ended n s m begunOf) (omega arith)
 
 -- a block that is full: the next text begins another
@@ -135,7 +136,7 @@ pub record Prints (s : List ℕ) (m : Store) (start : Run) (left : Store) (r : R
 
 module _ (s : List ℕ) (m : Store) (start : Run) where
   pub nothing-yet : (out : List ℕ) → start ≡ begunOf → Prints s m start m start out
-  unfolding begunOf
+  unfolding begunOf driveBegun
   nothing-yet out e =
       record {
         earlier = [];

@@ -14,7 +14,8 @@ use Rattle.script.specs.Cursor.{stepFrom, atStep, nextOf}
 use Rattle.script.specs.Block.{blockSteps, blockFrom}
 use Rattle.script.proofs.Blocks.{Within, lent, begins, block-inside, block-next, within-on}
 use Rattle.sheet.specs.declared.Run.{Run}
-use Rattle.sheet.specs.Sheet.{Store, cursorAt}
+use Rattle.driver.specs.Driver.{Store}
+use Rattle.sheet.specs.Sheet.{cursorAt}
 use Rattle.sheet.specs.Fill.{goes, Gone}
 use Rattle.sheet.proofs.Less.{keeps-cursor}
 use Rattle.sheet.proofs.Loop.{both, Did, one-turn}

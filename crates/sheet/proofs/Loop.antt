@@ -12,7 +12,8 @@ use Rattle.script.specs.Cursor.{nextOf}
 use Rattle.line.specs.Text.{Written}
 use Rattle.line.proofs.Join.{on}
 use Rattle.sheet.specs.declared.Run.{Run}
-use Rattle.sheet.specs.Sheet.{Store, saidOn, runOn, storeAt, saidIn, runIn, storeIn}
+use Rattle.driver.specs.Driver.{Store, storeAt}
+use Rattle.sheet.specs.Sheet.{saidOn, runOn, saidIn, runIn, storeIn}
 use Rattle.sheet.specs.Fill.{Sheet, sheet, oneTurn, goes, turns, ahead, Turned, Gone, emptied, Filled}
 use Rattle.sheet.proofs.Glue.{nothing}
 use Rattle.sheet.proofs.Less.{turn-less}

@@ -8,7 +8,8 @@ use lib.ListN.{length, take}
 use Rattle.script.specs.declared.Item.{Item}
 use Rattle.script.specs.File.{runOf}
 use Rattle.sheet.specs.declared.Run.{Run}
-use Rattle.sheet.specs.Sheet.{Store, begunOf, saidAt, runAt, storeAt, runIn, storeIn}
+use Rattle.driver.specs.Driver.{Store, storeAt}
+use Rattle.sheet.specs.Sheet.{begunOf, saidAt, runAt, runIn, storeIn}
 use Rattle.sheet.specs.Fill.{emptied}
 
 -- 01, chart: the items' text, up to the one that ends the run

@@ -7,7 +7,8 @@ use lib.Dec.{leb}
 use lib.ListN.{length}
 use Rattle.line.specs.Text.{Written}
 use Rattle.sheet.specs.declared.Run.{Run}
-use Rattle.sheet.specs.Sheet.{Store, placed, saidIn, runIn, storeIn}
+use Rattle.driver.specs.Driver.{Store}
+use Rattle.sheet.specs.Sheet.{placed, saidIn, runIn, storeIn}
 
 -- all that a turn changes, and the text so far
 pub record Sheet : Type 0 where

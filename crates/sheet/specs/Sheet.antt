@@ -1,57 +1,34 @@
--- What a run file's next item does: to the run, to the memory, and what the chart says of it.
+-- What the chart says of a run file's next item, and where its text goes on.
 use Prim.Native.Nat.{ℕ, _+_}
-use mathlib.Core.Bool.{Bool, true, false, cond}
+use mathlib.Core.Bool.{Bool}
 use mathlib.Core.List.{List, []}
-use lib.Dec.{eqb, ltb}
-use lib.ListN.{length, set}
-use Rattle.script.specs.declared.Step.{Step}
-use Rattle.script.specs.declared.Step.the-variants as step
-use Rattle.script.specs.declared.Part.{Part}
-use Rattle.script.specs.declared.Part.the-variants as part
+use lib.ListN.{length}
 use Rattle.script.specs.declared.Item.{Item}
-use Rattle.script.specs.declared.Item.the-variants as item
 use Rattle.script.specs.declared.Cursor.{Cursor}
 use Rattle.script.specs.declared.Found.{Found}
-use Rattle.script.specs.Cursor.{startOf, nextOf}
-use Rattle.sequencer.specs.declared.Chip.{Chip}
-use Rattle.sequencer.specs.Chip.{Host, host, powered}
-use Rattle.run.specs.declared.Done.{Done}
-use Rattle.run.specs.Run.{doneOf}
+use Rattle.script.specs.Cursor.{nextOf}
+use Rattle.chip.specs.declared.Chip.{Chip}
+use Rattle.driver.specs.declared.Run.{Run as Drive}
+use Rattle.driver.specs.declared.Event.{Event}
+use Rattle.driver.specs.declared.Event.the-variants as event
+use Rattle.driver.specs.declared.Made.{Made}
+use Rattle.driver.specs.Driver.{Store, madeAt, storeAt, begunOf as driveBegun}
 use Rattle.line.specs.Line.{numbersOf}
 use Rattle.line.specs.Text.{lineOf, stepsOf, refusedOf}
 use Rattle.sheet.specs.declared.Run.{Run}
 
--- ---- the memory
-
--- 01, Memory: what a run file may change
-pub record Store : Type 0 where
-  pub ram : List ℕ
-  pub rom : List ℕ
-  pub colour : List ℕ
-
-abbrev pub store : List ℕ → List ℕ → List ℕ → Store
-store ram rom colour = record { ram = ram; rom = rom; colour = colour }
-
-abbrev pub hostOf : Store → ℕ → Host
-hostOf m bank = host (m .ram) (m .rom) (m .colour) bank
-
--- a byte of a memory; past its end, nothing
-unfoldable pub setIn : List ℕ → ℕ → ℕ → List ℕ
-setIn s address value = cond (ltb address (length s)) (set s address value) s
-
--- 01, Run file: a change goes to the memory of its section
-unfoldable pub storeSet : Part → ℕ → ℕ → Store → Store
-storeSet part.Start address value m = m
-storeSet part.Ram address value m = store (setIn (m .ram) address value) (m .rom) (m .colour)
-storeSet part.Rom address value m = store (m .ram) (setIn (m .rom) address value) (m .colour)
-storeSet part.Colour address value m = store (m .ram) (m .rom) (setIn (m .colour) address value)
-storeSet part.Steps address value m = m
-
 -- ---- the run
 
--- 01, Run file: memory starts 0, bank 0, the chip as at power-up; no step is done, nothing is written
+-- without its text
+abbrev pub drivenOf : Run → Drive
+drivenOf r = record { chip = r .chip; cursor = r .cursor; done = r .done; bank = r .bank; going = r .going }
+
+abbrev pub withText : Drive → ℕ → Run
+withText d at = record { chip = d .chip; cursor = d .cursor; at = at; done = d .done; bank = d .bank; going = d .going }
+
+-- nothing is written
 unfoldable pub begunOf : Run
-begunOf = record { chip = powered; cursor = startOf; at = 0; done = 0; bank = 0; going = true }
+begunOf = withText driveBegun 0
 
 abbrev pub cursorAt : Run → Cursor → Run
 cursorAt r c = record { chip = r .chip; cursor = c; at = r .at; done = r .done; bank = r .bank; going = r .going }
@@ -60,68 +37,24 @@ cursorAt r c = record { chip = r .chip; cursor = c; at = r .at; done = r .done; 
 abbrev pub placed : Run → ℕ → Bool → Run
 placed r at going = record { chip = r .chip; cursor = r .cursor; at = at; done = r .done; bank = r .bank; going = going }
 
--- a file has 65,535 steps at most, so that the count never stays
-abbrev pub oneMore : ℕ → ℕ
-oneMore done = cond (ltb done 65535) (done + 1) done
-
--- a step is done
-abbrev pub stepDone : Run → Done → ℕ → Run
-stepDone r d at = record { chip = d .chip; cursor = r .cursor; at = at; done = oneMore (r .done); bank = d .bank; going = r .going }
-
 -- ---- what the chart says
 
--- 01, chart: a line for each tick, nothing for another step
-unfoldable pub toldOf : Step → Chip → List ℕ
-toldOf step.Tick c = lineOf (numbersOf c)
-toldOf (step.Write address value) c = []
-toldOf (step.Expand value) c = []
-toldOf (step.Controls ctrl1 ctrl2 compare) c = []
-toldOf (step.Late value) c = []
-toldOf step.Borders c = []
-toldOf (step.Display shown transition access changing) c = []
-toldOf (step.Bank bank) c = []
+-- 01, chart: `steps N`, a line for each tick, and for a fault its number and the steps done
+unfoldable pub textBy : Event → Chip → ℕ → List ℕ
+textBy event.Nothing c done = []
+textBy (event.Steps n) c done = stepsOf n
+textBy event.Tick c done = lineOf (numbersOf c)
+textBy (event.Refused number) c done = refusedOf number done
 
--- a step by its answer: 01, chart: a fault ends it with its number and the steps done
-abbrev pub saidBy : Run → Step → Done → List ℕ
-saidBy r s d = cond (eqb (d .refused) 0) (toldOf s (d .chip)) (refusedOf (d .refused) (r .done))
-
-abbrev pub runBy : Run → Step → Done → Run
-runBy r s d =
-    cond (eqb (d .refused) 0) (stepDone r d (r .at + length (toldOf s (d .chip))))
-    (placed r (r .at + length (refusedOf (d .refused) (r .done))) false)
-
-unfoldable pub saidDoing : Store → Run → Step → List ℕ
-saidDoing m r s = saidBy r s (doneOf (hostOf m (r .bank)) (r .chip) s)
-
-unfoldable pub runDoing : Store → Run → Step → Run
-runDoing m r s = runBy r s (doneOf (hostOf m (r .bank)) (r .chip) s)
-
--- ---- one item
+abbrev pub textOf : Made → List ℕ
+textOf x = textBy (x .event) (x .run .chip) (x .run .done)
 
 -- 01, chart: `steps N` first; a fault before that prints only the refusal, with 0
 unfoldable pub saidAt : Store → Run → Item → List ℕ
-saidAt m r (item.Changes memory n) = []
-saidAt m r (item.Change memory address value) = []
-saidAt m r (item.Steps n) = stepsOf n
-saidAt m r (item.Do s) = saidDoing m r s
-saidAt m r item.Done = []
-saidAt m r (item.Refused number) = refusedOf number (r .done)
+saidAt m r i = textOf (madeAt m (drivenOf r) i)
 
 unfoldable pub runAt : Store → Run → Item → Run
-runAt m r (item.Changes memory n) = r
-runAt m r (item.Change memory address value) = r
-runAt m r (item.Steps n) = placed r (r .at + length (stepsOf n)) true
-runAt m r (item.Do s) = runDoing m r s
-runAt m r item.Done = placed r (r .at) false
-runAt m r (item.Refused number) = placed r (r .at + length (refusedOf number (r .done))) false
-
-unfoldable pub storeAt : Store → Item → Store
-storeAt m (item.Changes memory n) = m
-storeAt m (item.Change memory address value) = storeSet memory address value m
-storeAt m (item.Steps n) = m
-storeAt m (item.Do s) = m
-storeAt m item.Done = m
-storeAt m (item.Refused number) = m
+runAt m r i = withText (madeAt m (drivenOf r) i .run) (r .at + length (textOf (madeAt m (drivenOf r) i)))
 
 -- ---- one turn: what was read, done, and the run goes on past it
 

@@ -1,21 +1,19 @@
-// The chart of a run file: what the file says next, done on a chip, with its text in a lent buffer; and that text written out, a block at a time.
+// The chart of a run file: what the driver has to tell of each turn, as text in a lent buffer; and that text written out, a block at a time.
 ghost use mathlib.Core.Path.{_≡_};
 ghost use mathlib.Core.Bool.{true, false};
 ghost use Prim.Native.Nat.{_+_, _≤_, _<_};
 ghost use lib.ListN.{length};
 ghost use Rattle.script.specs.Cursor.{atStep};
-ghost use Rattle.line.specs.Text.{Written, stepsOf, refusedOf};
-ghost use Rattle.sheet.specs.Sheet.{store, setIn, storeSet, begunOf, cursorAt, placed, oneMore, stepDone, toldOf, saidDoing, runDoing, saidOn, runOn, storeAt};
+ghost use Rattle.line.specs.Text.{Written};
+ghost use Rattle.driver.specs.Driver.{store, storeAt};
+ghost use Rattle.sheet.specs.Sheet.{drivenOf, withText, begunOf, placed, textBy, saidOn, runOn};
 ghost use Rattle.sheet.specs.Fill.{goes, Gone, Filled, ahead};
 ghost use Rattle.sheet.specs.Chart.{chartOf, end, endedOf, Ends};
+use chip::Chip;
+use driver::Event;
 use libc::STDOUT_FILENO;
-use run::Done;
 use script::Cursor;
 use script::Found;
-use script::Item;
-use script::Part;
-use script::Step;
-use sequencer::Chip;
 
 // A run on its way: `done` steps are done, and the text goes on at `at`.
 pub struct Run {
@@ -29,34 +27,41 @@ pub struct Run {
 
 // ---- the run
 
-pub fn begun() -> Run
-    ensures { λ r. ⌜ r ≡ begunOf ⌝ }
-{
-    let chip = sequencer::power_up();
-    let cursor = Cursor::start();
-    Run {
-        chip,
-        cursor,
-        at: 0,
-        done: 0,
-        bank: 0,
-        going: true,
-    }
-}
-
-// The run at another place of its file.
-fn moved(run: Run, cursor: Cursor) -> Run
-    ensures { λ r. ⌜ r ≡ cursorAt run cursor ⌝ }
+// The run with its text at a place.
+fn with_text(run: driver::Run, at: usize) -> Run
+    ensures { λ r. ⌜ r ≡ withText run at ⌝ }
 {
     let chip = run.chip;
+    let cursor = run.cursor;
     Run {
         chip,
         cursor,
-        at: run.at,
+        at,
         done: run.done,
         bank: run.bank,
         going: run.going,
     }
+}
+
+// The run without its text.
+fn driven(run: Run) -> driver::Run
+    ensures { λ r. ⌜ r ≡ drivenOf run ⌝ }
+{
+    let chip = run.chip;
+    let cursor = run.cursor;
+    driver::Run {
+        chip,
+        cursor,
+        done: run.done,
+        bank: run.bank,
+        going: run.going,
+    }
+}
+
+pub fn begun() -> Run
+    ensures { λ r. ⌜ r ≡ begunOf ⌝ }
+{
+    with_text(driver::begun(), 0)
 }
 
 // The run with its text at another place, going on or not.
@@ -75,112 +80,19 @@ fn at_place(run: Run, at: usize, going: bool) -> Run
     }
 }
 
-// One more; a file has 65,535 steps at most, so the count never stays.
-fn one_more(done: u16) -> u16
-    ensures { λ r. ⌜ r ≡ oneMore done ⌝ }
-{
-    if done < 65535 {
-        return done + 1;
-    }
-    done
-}
-
-// A step is done.
-fn counted(run: Run, did: Done, at: usize) -> Run
-    ensures { λ r. ⌜ r ≡ stepDone run did at ⌝ }
-{
-    let chip = did.chip;
-    let cursor = run.cursor;
-    Run {
-        chip,
-        cursor,
-        at,
-        done: one_more(run.done),
-        bank: did.bank,
-        going: run.going,
-    }
-}
-
-// ---- the memory
-
-// A byte of a memory; past its end, which no file gets to, nothing.
-fn set(memory: &mut [u8], address: u16, value: u8)
-    ensures { λ _. ⌜ now (memory .exit) ≡ setIn (now (memory .entry)) address value ⌝ }
-{
-    let at = address as usize;
-    if at < memory.len() {
-        memory[at] = value;
-    }
-}
-
-fn change(ram: &mut [u8], rom: &mut [u8], colour: &mut [u8], part: Part, address: u16, value: u8)
-    ensures { λ _. ⌜ store (now (ram .exit)) (now (rom .exit)) (now (colour .exit)) ≡ storeSet part address value (store (now (ram .entry)) (now (rom .entry)) (now (colour .entry))) ⌝ }
-{
-    match part {
-        Part::Start => (),
-        Part::Ram => set(ram, address, value),
-        Part::Rom => set(rom, address, value),
-        Part::Colour => set(colour, address, value),
-        Part::Steps => (),
-    }
-}
-
 // ---- the text
 
-// The line of a tick; another step has none.
-fn told(out: &mut [u8], at: usize, step: Step, chip: Chip) -> usize
+// What the chart says of a turn.
+fn told(out: &mut [u8], at: usize, event: Event, run: driver::Run) -> usize
     requires { ⌜ at + 64 ≤ length (now out) ⌝ }
-    ensures { λ r. ⌜ (r ≤ at + 64) × Written (now (out .entry)) at (toldOf step chip) (now (out .exit)) r ⌝ }
+    ensures { λ r. ⌜ (r ≤ at + 64) × Written (now (out .entry)) at (textBy event (run .chip) (run .done)) (now (out .exit)) r ⌝ }
 {
-    match step {
-        Step::Tick => line::line(out, at, line::numbers(chip)),
-        Step::Write(_, _) => at,
-        Step::Expand(_) => at,
-        Step::Controls(_, _, _) => at,
-        Step::Late(_) => at,
-        Step::Borders => at,
-        Step::Display(_, _, _, _) => at,
-        Step::Bank(_) => at,
+    match event {
+        Event::Nothing => at,
+        Event::Steps(n) => line::steps(out, at, n),
+        Event::Tick => line::line(out, at, line::numbers(run.chip)),
+        Event::Refused(number) => line::refused(out, at, number, run.done),
     }
-}
-
-// The run ends at a refusal.
-fn refuse(run: Run, out: &mut [u8], number: u8) -> Run
-    requires { ⌜ run .at + 64 ≤ length (now out) ⌝ }
-    ensures { λ r. ⌜ (r .at ≤ run .at + 64) × (r ≡ placed run (run .at + length (refusedOf number (run .done))) false) × Written (now (out .entry)) (run .at) (refusedOf number (run .done)) (now (out .exit)) (r .at) ⌝ }
-{
-    let at = line::refused(out, run.at, number, run.done);
-    at_place(run, at, false)
-}
-
-fn steps(run: Run, out: &mut [u8], n: u16) -> Run
-    requires { ⌜ run .at + 64 ≤ length (now out) ⌝ }
-    ensures { λ r. ⌜ (r .at ≤ run .at + 64) × (r ≡ placed run (run .at + length (stepsOf n)) true) × Written (now (out .entry)) (run .at) (stepsOf n) (now (out .exit)) (r .at) ⌝ }
-{
-    let at = line::steps(out, run.at, n);
-    at_place(run, at, true)
-}
-
-// A step that was not refused: its line, if it has one, and one step more.
-fn tell(run: Run, out: &mut [u8], step: Step, did: Done) -> Run
-    requires { ⌜ run .at + 64 ≤ length (now out) ⌝ }
-    ensures { λ r. ⌜ (r .at ≤ run .at + 64) × (r ≡ stepDone run did (run .at + length (toldOf step (did .chip)))) × Written (now (out .entry)) (run .at) (toldOf step (did .chip)) (now (out .exit)) (r .at) ⌝ }
-{
-    let chip = did.chip;
-    let at = told(out, run.at, step, chip);
-    counted(run, did, at)
-}
-
-fn act(run: Run, out: &mut [u8], step: Step, ram: &[u8], rom: &[u8], colour: &[u8]) -> Run
-    requires { ⌜ run .at + 64 ≤ length (now out) ⌝ }
-    ensures { λ r. ⌜ (r .at ≤ run .at + 64) × (r ≡ runDoing (store (now (ram .entry)) (now (rom .entry)) (now (colour .entry))) run step) × Written (now (out .entry)) (run .at) (saidDoing (store (now (ram .entry)) (now (rom .entry)) (now (colour .entry))) run step) (now (out .exit)) (r .at) ⌝ }
-{
-    let chip = run.chip;
-    let did = run::step(chip, run.bank, step, ram, rom, colour);
-    if did.refused == 0 {
-        return tell(run, out, step, did);
-    }
-    refuse(run, out, did.refused)
 }
 
 // What was read, done.
@@ -198,20 +110,11 @@ fn turn(
     ensures { λ r. ⌜ Written (now (out .entry)) (before .at) (saidOn (store (now (ram .entry)) (now (rom .entry)) (now (colour .entry))) before found) (now (out .exit)) (r .at) ⌝ }
     ensures { λ r. ⌜ store (now (ram .exit)) (now (rom .exit)) (now (colour .exit)) ≡ storeAt (store (now (ram .entry)) (now (rom .entry)) (now (colour .entry))) (found .item) ⌝ }
 {
-    let next = found.cursor;
-    let item = found.item;
-    let run = moved(before, next);
-    match item {
-        Item::Changes(_, _) => run,
-        Item::Change(part, address, value) => {
-            change(ram, rom, colour, part, address, value);
-            run
-        }
-        Item::Steps(n) => steps(run, out, n),
-        Item::Do(step) => act(run, out, step, ram, rom, colour),
-        Item::Done => at_place(run, run.at, false),
-        Item::Refused(number) => refuse(run, out, number),
-    }
+    let made = driver::turn(driven(before), found, ram, rom, colour);
+    let run = made.run;
+    let event = made.event;
+    let at = told(out, before.at, event, run);
+    with_text(run, at)
 }
 
 // The steps of one block, which is lent once: until it is read, the run is over or another turn may not fit.

@@ -4,28 +4,36 @@ use mathlib.Core.Path.{_≡_, refl, sym, _∙_}
 use mathlib.Core.Bool.{Bool, true, false, not, _&&_, cond}
 use native.Mathlib.Omega.{arith}
 use lib.Dec.{eqb}
-use lib.IntN.{ℤ, pos}
+use lib.IntN.{pos}
 use borrow.Author.Tests.{le-leb, not-true}
 use Rattle.laws.specs.Bits.{hasBit}
 use Rattle.laws.specs.Clock.{inRange}
 use Rattle.laws.proofs.Choice.{left, right}
 use Rattle.schedule.proofs.Parts.{Mid, mid, lit, past}
+use Rattle.registers.specs.declared.Controls.{Controls}
 use Rattle.timing.specs.Beam.{nextCycle, badLine}
-use Rattle.timing.proofs.Kept.{cycle-next, ba-high}
+use Rattle.timing.specs.Set.{cycle≔}
+use Rattle.timing.proofs.Kept.{cycle-next, moved, beam-moved}
 use Rattle.sprites.specs.Sprites.{spriteAt}
-use Rattle.arbitration.specs.Bus.{clockOn, clockAfter}
-use Rattle.arbitration.proofs.Kept.{matrix-alone, free-bus, clock-after-none, clock-after-one-more}
-use Rattle.access.proofs.Laws.{none-missed}
+use Rattle.arbitration.specs.declared.Bus.{Bus}
+use Rattle.arbitration.specs.Bus.{clockOn, clocked}
+use Rattle.arbitration.specs.Set.{clock≔, aec≔, balow≔, aeclow≔}
+use Rattle.arbitration.proofs.Kept.{matrix-alone, free-bus, clocked-sets, clock-on-none, clock-on-one-more}
+use Rattle.rows.specs.declared.Rows.{Rows}
+use Rattle.rows.specs.Rows.{vcAfter, vmliAfter, rowsLater}
+use Rattle.rows.specs.Set.{transition≔, access≔}
+use Rattle.rows.proofs.Parts.{rows-mid}
+use Rattle.rows.proofs.Laws.{none-missed, vc-one-more, vmli-one-more, vc-none, vmli-none}
 use Rattle.side.specs.declared.Side.{Side}
 use Rattle.side.specs.declared.Turned.{Turned}
-use Rattle.side.specs.Rows.{vcAfter, vmliAfter}
-use Rattle.side.specs.Turn.{Controls, turned}
-use Rattle.side.specs.Leap.{onlyCounts, vcLater, vmliLater, leapt}
-use Rattle.side.proofs.Parts.{border-past, sprites-mid, rows-mid, lit-glue}
+use Rattle.side.specs.Set.{beam≔, bus≔, rows≔, changed≔}
+use Rattle.side.specs.Turn.{turned}
+use Rattle.side.specs.Machinery.Leap.{onlyCounts, leapt}
+use Rattle.side.proofs.Parts.{border-past, sprites-mid, lit-glue}
 
 -- the test, and where on the line it is used
 pub record Counts (yscroll : ℕ) (s : Side) : Type 0 where
-  pub bad : badLine (s .beam .raster) yscroll (s .frame .latch) ≡ false
+  pub bad : badLine (s .beam .raster) yscroll (s .beam .latch) ≡ false
   pub balow : s .bus .balow ≡ false
   pub aeclow : s .bus .aeclow ≡ false
   pub transition : s .rows .transition ≡ false
@@ -36,7 +44,7 @@ pub record Counts (yscroll : ℕ) (s : Side) : Type 0 where
 pub counts : (yscroll : ℕ) (s : Side) → onlyCounts yscroll s ≡ true → 18 ≤ s .beam .cycle → s .beam .cycle ≤ 53 → Counts yscroll s
 unfolding onlyCounts
 counts yscroll s e l h =
-    let a = not (badLine (s .beam .raster) yscroll (s .frame .latch)) in
+    let a = not (badLine (s .beam .raster) yscroll (s .beam .latch)) in
     let b = not (s .bus .balow) in
     let c = not (s .bus .aeclow) in
     let d = not (s .rows .transition) in
@@ -45,7 +53,7 @@ counts yscroll s e l h =
     let three = left (a && b && c) d four in
     let two = left (a && b) c three in
     record {
-      bad = not-true (badLine (s .beam .raster) yscroll (s .frame .latch)) (left a b two);
+      bad = not-true (badLine (s .beam .raster) yscroll (s .beam .latch)) (left a b two);
       balow = not-true (s .bus .balow) (right a b two);
       aeclow = not-true (s .bus .aeclow) (right (a && b) c three);
       transition = not-true (s .rows .transition) (right (a && b && c) d four);
@@ -58,34 +66,25 @@ counts yscroll s e l h =
 abbrev pub quiet : Controls → Side → Turned
 quiet g s =
     let cycle = nextCycle (s .beam .cycle) in
-    let rows = s .rows in
-    let vc = vcAfter (rows .display) (rows .vc) in
-    let vmli = vmliAfter (rows .display) (rows .vmli) in
+    let rows = rowsLater 1 (s .rows) in
     record {
-      side = record {
-        irq = s .irq;
-        beam = record { cycle = cycle; raster = s .beam .raster; den = g .den; rsel = g .rsel; yscroll = g .yscroll; bad = false; rising = false; ba = true };
-        frame = s .frame;
-        border = s .border;
-        sprites = s .sprites;
-        bus = record { clock = clockOn (s .bus .clock); fall = s .bus .fall; rise = s .bus .rise; aec = pos 3; balow = false; aeclow = false };
-        rows = record { vc = vc; vcbase = rows .vcbase; rc = rows .rc; vmli = vmli; display = rows .display; transition = false; access = false };
-        pending = s .pending;
-        changed = s .irq .line;
-      };
+      side =
+          beam≔ (moved (s .beam) cycle (g .den) (g .rsel) (g .yscroll))
+          (bus≔ (aec≔ (pos 3) (balow≔ false (aeclow≔ false (clock≔ (clockOn 1 (s .bus .clock)) (s .bus)))))
+          (rows≔ (transition≔ false (access≔ false rows)) (changed≔ (s .irq .line) s)));
       orders = record {
         cycle = cycle;
         graphics = true;
-        moves = rows .display;
+        moves = s .rows .display;
         waiting = false;
-        plain = not (eqb (rows .rc) 0);
+        plain = not (eqb (s .rows .rc) 0);
         hidden = s .border .disabled;
-        vc = rows .vc;
-        vmli = rows .vmli;
-        rc = rows .rc;
+        vc = s .rows .vc;
+        vmli = s .rows .vmli;
+        rc = s .rows .rc;
         fills = false;
-        place = vmli;
-        column = vc;
+        place = rows .vmli;
+        column = rows .vc;
         sprite = 0;
         pointing = false;
         fetching = false;
@@ -106,8 +105,8 @@ quiet-turn g s e =
     let cycle = nextCycle (s .beam .cycle) in
     let m = on-line s (g .yscroll) e in
     let l = lit cycle (m .graphics) in
-    lit-glue g s l refl refl (sym (e .bad)) (border-past cycle (s .beam .raster) (g .den) (g .csel) (s .border) l (m .past))
-    (sprites-mid cycle (s .beam .raster) (g .my) (g .enable) (g .yexp) (s .sprites) l m) (ba-high cycle)
+    lit-glue g s l refl refl (border-past cycle (s .beam .raster) (g .den) (g .csel) (s .border) l (m .past))
+    (sprites-mid cycle (s .beam .raster) (g .my) (g .enable) (g .yexp) (s .sprites) l m) (beam-moved (s .beam) cycle (g .den) (g .rsel) (g .yscroll) (e .bad))
     (matrix-alone true (s .sprites .dma) cycle (m .asks)) (free-bus (s .bus) (e .balow)) refl refl
     (rows-mid cycle (s .rows) l m (e .transition) (e .access)) (none-missed _ (s .pending))
 
@@ -121,22 +120,12 @@ counts-on g s e h =
     let next = cycle-next (s .beam .cycle) (omega arith) in
     record { bad = e .bad; balow = refl; aeclow = refl; transition = refl; access = refl; low = rw next (omega (arith, e .low)); high = rw next h }
 
-vc-later : (k : ℕ) (moves : Bool) (vc : ℕ) → vcLater k moves (vcAfter moves vc) ≡ vcLater (suc k) moves vc
-unfolding vcLater vcAfter
-vc-later k true vc = omega arith
-vc-later k false vc = refl
-
-vmli-later : (k : ℕ) (moves : Bool) (vmli : ℕ) → vmliLater k moves (vmliAfter moves vmli) ≡ vmliLater (suc k) moves vmli
-unfolding vmliLater vmliAfter
-vmli-later k true vmli = omega arith
-vmli-later k false vmli = refl
-
 -- what is counted after the tick, or before it
 pub quiet-later : (g : Controls) (s : Side) (k : ℕ) → Counts (g .yscroll) s → inRange (s .bus .clock) → quiet g (leapt k (quiet g s .side)) ≡ quiet g (leapt (suc k) s)
 quiet-later g s k e r =
     let next = cycle-next (s .beam .cycle) (omega (arith, e .high)) in
     let cycle : nextCycle (s .beam .cycle) + k ≡ s .beam .cycle + suc k = rw next (omega arith) in
-    rw (cycle, e .aeclow, clock-after-one-more k (s .bus .clock) r, vc-later k (s .rows .display) (s .rows .vc), vmli-later k (s .rows .display) (s .rows .vmli)) refl
+    rw (cycle, e .aeclow, clock-on-one-more k (s .bus .clock) r, vc-one-more k (s .rows .display) (s .rows .vc), vmli-one-more k (s .rows .display) (s .rows .vmli)) refl
 
 pub leap-turn : (g : Controls) (s : Side) (k : ℕ) → Counts (g .yscroll) s → inRange (s .bus .clock) → s .beam .cycle + suc k ≤ 53
     → turned g (leapt k (turned g s .side)) ≡ turned g (leapt (suc k) s)
@@ -150,32 +139,14 @@ leap-turn g s k e r h =
 
 -- no tick at all
 pub leap-none : (s : Side) → inRange (s .bus .clock) → s .rows .vc < 1024 → s .rows .vmli < 256 → leapt 0 s ≡ s
-unfolding vcLater vmliLater
 leap-none s r a b =
     let cycle : s .beam .cycle + 0 ≡ s .beam .cycle = omega arith in
-    let vc : (s .rows .vc + 0) % 1024 ≡ s .rows .vc = omega arith in
-    let vmli : (s .rows .vmli + 0) % 256 ≡ s .rows .vmli = omega arith in
-    rw (cycle, clock-after-none (s .bus .clock) r, vc, vmli, same (s .rows .display) (s .rows .vc), same (s .rows .display) (s .rows .vmli)) refl
-  where
-    same : (b : Bool) (n : ℕ) → cond b n n ≡ n
-    same true n = refl
-    same false n = refl
+    rw (cycle, clock-on-none (s .bus .clock) r, vc-none (s .rows .display) (s .rows .vc) a, vmli-none (s .rows .display) (s .rows .vmli) b) refl
 
 -- a leap from what its calls gave
-pub leap-glue : (s : Side) (k : ℕ) {clock : ℤ} {wide vc vmli : ℕ}
-    → clock ≡ clockAfter k (s .bus .clock)
-    → vc ≡ vcLater k (s .rows .display) (s .rows .vc)
-    → vmli ≡ vmliLater k (s .rows .display) (s .rows .vmli)
+pub leap-glue : (s : Side) (k : ℕ) {bus : Bus} {rows : Rows} {wide : ℕ}
     → wide ≡ k
-    → _≡_ {A = Side} (record {
-      irq = s .irq;
-      beam = record { cycle = s .beam .cycle + wide; raster = s .beam .raster; den = s .beam .den; rsel = s .beam .rsel; yscroll = s .beam .yscroll; bad = s .beam .bad; rising = s .beam .rising; ba = s .beam .ba };
-      frame = s .frame;
-      border = s .border;
-      sprites = s .sprites;
-      bus = record { clock = clock; fall = s .bus .fall; rise = s .bus .rise; aec = s .bus .aec; balow = s .bus .balow; aeclow = s .bus .aeclow };
-      rows = record { vc = vc; vcbase = s .rows .vcbase; rc = s .rows .rc; vmli = vmli; display = s .rows .display; transition = s .rows .transition; access = s .rows .access };
-      pending = s .pending;
-      changed = s .changed;
-    }) (leapt k s)
-leap-glue s k clock vc vmli wide = rw (← clock, ← vc, ← vmli, wide)
+    → bus ≡ clocked k (s .bus)
+    → rows ≡ rowsLater k (s .rows)
+    → beam≔ (cycle≔ (s .beam .cycle + wide) (s .beam)) (bus≔ bus (rows≔ rows s)) ≡ leapt k s
+leap-glue s k wide bus rows = rw (wide, bus, rows, clocked-sets k (s .bus))

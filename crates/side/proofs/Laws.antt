@@ -1,19 +1,15 @@
--- What callers may know of a turn and of VMLI's limit without opening them. Assumes nothing.
-use mathlib.Core.Path.{_≡_, sym, _∙_}
-use mathlib.Core.Bool.{Bool, true, false, not}
-use Prim.Native.Nat.{ℕ, _-_, _<_, _≤_}
-use native.Mathlib.Omega.{arith}
-use borrow.Author.Tests.{not-true, not-false}
-use Rattle.laws.proofs.Choice.{either, picks}
-use Rattle.schedule.specs.Kind.{lastCycle}
-use Rattle.schedule.specs.Diagram.{happens, graphicsAccess, vmliCounts}
+-- What callers may know of a turn without opening it. Assumes nothing.
+use mathlib.Core.Path.{_≡_}
+use mathlib.Core.Bool.{true, false}
+use Prim.Native.Nat.{_<_}
+use Rattle.schedule.specs.Diagram.{happens, graphicsAccess}
 use Rattle.schedule.proofs.Laws.{slot-small}
 use Rattle.schedule.proofs.Parts.{lit}
+use Rattle.registers.specs.declared.Controls.{Controls}
 use Rattle.timing.specs.Beam.{nextCycle}
+use Rattle.rows.specs.Rows.{rowed}
 use Rattle.side.specs.declared.Side.{Side}
-use Rattle.side.specs.Rows.{rowed}
-use Rattle.side.specs.Turn.{Controls, turned}
-use Rattle.side.specs.Fine.{vmliLimit}
+use Rattle.side.specs.Turn.{turned}
 
 -- a slot is one of eight sprites'
 pub slot-of-eight : (g : Controls) (s : Side) → turned g s .orders .sprite < 8
@@ -33,18 +29,3 @@ module _ (g : Controls) (s : Side) where
   pub dark-graphics : happens graphicsAccess (nextCycle (s .beam .cycle)) ≡ false → turned g s .orders .graphics ≡ false
   unfolding turned rowed
   dark-graphics e = e
-
--- VMLI is far within its byte
-pub limit-small : (cycle : ℕ) → cycle ≤ lastCycle → vmliLimit cycle < 256
-unfolding vmliLimit
-limit-small cycle h = rw (picks (happens vmliCounts cycle) (cycle - 15) 40) (either (λ (n : ℕ). n < 256) (happens vmliCounts cycle) (omega arith) (omega arith))
-
--- VMLI's limit where it does not count, and where it does
-module _ (cycle : ℕ) {counts : Bool} (e : counts ≡ happens vmliCounts cycle) where
-  pub whole : not counts ≡ true → 40 ≡ vmliLimit cycle
-  unfolding vmliLimit
-  whole t = sym (picks (happens vmliCounts cycle) (cycle - 15) 40 ∙ simp (sym e ∙ not-true counts t))
-
-  pub behind : not counts ≡ false → cycle - 15 ≡ vmliLimit cycle
-  unfolding vmliLimit
-  behind t = sym (picks (happens vmliCounts cycle) (cycle - 15) 40 ∙ simp (sym e ∙ not-false counts t))

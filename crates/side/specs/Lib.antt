@@ -1,6 +1,5 @@
-pub mod Frame
-pub mod Rows
 pub mod Phases
 pub mod Turn
-pub mod Leap
 pub mod Fine
+pub mod Set
+pub mod Machinery

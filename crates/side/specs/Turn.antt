@@ -1,40 +1,26 @@
 -- One tick of the timing side: each part has its step's number of 01's list, and stands after the parts that it reads. No picture value is in sight.
-use Prim.Native.Nat.{ℕ}
 use mathlib.Core.Bool.{Bool, false, not, _&&_, _||_}
-use mathlib.Core.List.{List}
 use lib.Dec.{eqb}
 use Rattle.laws.specs.Bits.{hasBit}
 use Rattle.laws.specs.Pick.{pick}
 use Rattle.schedule.specs.Diagram.{pointerTime, dataTime, slotSprite, slotAfterBus}
+use Rattle.registers.specs.declared.Controls.{Controls}
 use Rattle.registers.specs.Irq.{quiet}
-use Rattle.timing.specs.Beam.{nextCycle, badLine, beamTurned}
+use Rattle.timing.specs.Beam.{nextCycle, beamTurned}
 use Rattle.timing.specs.Beam as Beams
+use Rattle.raster.specs.Frame.{swept}
+use Rattle.raster.specs.Frame as Frames
 use Rattle.border.specs.Border as Borders
 use Rattle.sprites.specs.Sprites.{allFresh, spriteAt}
 use Rattle.arbitration.specs.Bus.{clocked, requested, arbitrated}
 use Rattle.arbitration.specs.Bus as Buses
-use Rattle.access.specs.Matrix.{pendingAfter}
-use Rattle.access.specs.declared.Pending.the-variants.{Nothing}
+use Rattle.rows.specs.Rows.{rowed}
+use Rattle.rows.specs.Rows as Rows
+use Rattle.rows.specs.Pending.{pendingAfter}
+use Rattle.rows.specs.declared.Pending.the-variants.{Nothing}
 use Rattle.side.specs.declared.Side.{Side}
 use Rattle.side.specs.declared.Turned.{Turned}
-use Rattle.side.specs.Frame.{freshFrame, swept}
-use Rattle.side.specs.Rows.{freshRows, rowed}
 use Rattle.side.specs.Phases.{bordered, phased, slotMoved}
-
--- 01, Timing side and picture side: the timing registers, as a tick finds them
-pub record Controls : Type 0 where
-  pub den : Bool
-  pub rsel : Bool
-  pub yscroll : ℕ
-  pub csel : Bool
-  pub compare : ℕ
-  pub my : List ℕ
-  pub enable : ℕ
-  pub yexp : ℕ
-
-abbrev pub controls : Bool → Bool → ℕ → Bool → ℕ → List ℕ → ℕ → ℕ → Controls
-controls den rsel yscroll csel compare my enable yexp =
-    record { den = den; rsel = rsel; yscroll = yscroll; csel = csel; compare = compare; my = my; enable = enable; yexp = yexp }
 
 -- 01, power-up: the parts' own values
 unfoldable pub freshSide : Side
@@ -42,11 +28,11 @@ freshSide =
     record {
       irq = quiet;
       beam = Beams.fresh;
-      frame = freshFrame;
+      frame = Frames.fresh;
       border = Borders.fresh;
       sprites = allFresh;
       bus = Buses.fresh;
-      rows = freshRows;
+      rows = Rows.fresh;
       pending = Nothing;
       changed = false;
     }
@@ -56,20 +42,19 @@ turned g s =
     -- tick 1: cycle +1
     let cycle = nextCycle (s .beam .cycle) in
     -- tick 3 and 4: a line begins, a frame ends
-    let sweep = swept (s .frame) (s .irq) cycle (s .beam .raster) (g .den) (g .compare) in
+    let sweep = swept (s .frame) (s .irq) cycle (s .beam .raster) (g .compare) in
     let raster = sweep .raster in
-    -- tick 2 and 3: the live bad line, on the line and the latch before a frame's end
-    let bad = badLine (sweep .line) (g .yscroll) (sweep .begun .latch) in
-    let beam = beamTurned (s .beam) cycle raster (g .den) (g .rsel) (g .yscroll) bad in
+    -- tick 1 to 4: the beam, with the DEN latch and the live bad line
+    let beam = beamTurned (s .beam) cycle (sweep .begins) (sweep .line) (sweep .wraps) raster (g .den) (g .rsel) (g .yscroll) in
     -- tick 3, 7, 8 and 9: the border's compares, the sprites' phases
     let border = bordered cycle raster (g .den) (g .csel) (s .border) in
     let sprites = phased cycle raster (g .my) (g .enable) (g .yexp) (s .sprites) in
     -- tick 8: arbitration, at the clock of tick 1
-    let bus = arbitrated (clocked (s .bus)) (requested (beam .ba) (sprites .dma) cycle) in
+    let bus = arbitrated (clocked 1 (s .bus)) (requested (beam .ba) (sprites .dma) cycle) in
     -- tick 5: the slot of this cycle
     let k = slotSprite cycle in
     -- tick 8: the row counters
-    let now = rowed cycle bad (beam .rising) (sweep .wraps) (s .rows) in
+    let now = rowed cycle (beam .bad) (beam .rising) (sweep .wraps) (s .rows) in
     record {
       side = record {
         irq = sweep .irq;
@@ -88,7 +73,7 @@ turned g s =
         graphics = now .graphics;
         moves = now .moves;
         waiting = now .waiting;
-        plain = bad || not (eqb (now .rc) 0);
+        plain = beam .bad || not (eqb (now .rc) 0);
         hidden = border .disabled;
         vc = now .vc;
         vmli = now .vmli;

@@ -6,37 +6,18 @@ ghost use Rattle.laws.specs.Clock.{inRange};
 ghost use Rattle.schedule.specs.Diagram.{happens, graphicsAccess};
 ghost use Rattle.timing.specs.Beam.{nextCycle};
 ghost use Rattle.arbitration.specs.Bus.{requested};
-ghost use Rattle.side.specs.Frame.{freshFrame, frameBegun, frameEnded, rasterBegun, raised, swept};
-ghost use Rattle.side.specs.Rows.{freshRows, vcAfter, vmliAfter, rcAfter, accessAfter, displayAfter, rowed};
 ghost use Rattle.side.specs.Phases.{beginAt, left40At, left38At, right38At, right40At, rememberAt, endAt, bordered, stepAt, firstAt, secondAt, loadAt, phased, slotMoved};
-ghost use Rattle.side.specs.Turn.{controls, freshSide, turned};
-ghost use Rattle.side.specs.Leap.{onlyCounts, vcLater, vmliLater, leapt};
-use access::Pending;
+ghost use Rattle.side.specs.Turn.{freshSide, turned};
+ghost use Rattle.side.specs.Machinery.Leap.{onlyCounts, leapt};
 use arbitration::Bus;
 use border::Border;
+use raster::Frame;
+use registers::Controls;
 use registers::Irq;
+use rows::Pending;
+use rows::Rows;
 use sprites::Sprites;
 use timing::Beam;
-
-// What waits from line to line: the frame's end, the raster match and the DEN latch.
-pub struct Frame {
-    pub ending: bool,
-    pub matched: bool,
-    pub latch: bool,
-}
-
-// The row counters and the states of the display logic.
-pub struct Rows {
-    pub vc: u16,
-    pub vcbase: u16,
-    pub rc: u8,
-    pub vmli: u8,
-    // true is Display, false Idle
-    pub display: bool,
-    // true is pending, false Stable
-    pub transition: bool,
-    pub access: bool,
-}
 
 pub struct Side {
     pub irq: Irq,
@@ -49,28 +30,6 @@ pub struct Side {
     pub pending: Pending,
     // the interrupt line as the last tick left it
     pub changed: bool,
-}
-
-// What the line and the frame do in a cycle, and the frame's flags between the two.
-pub struct Swept {
-    pub line: u16,
-    pub begun: Frame,
-    pub wraps: bool,
-    pub raster: u16,
-    pub frame: Frame,
-    pub irq: Irq,
-}
-
-// What the display logic does in a cycle, and the numbers that its accesses find.
-pub struct Rowed {
-    pub rows: Rows,
-    pub vc: u16,
-    pub vmli: u8,
-    pub rc: u8,
-    pub graphics: bool,
-    pub moves: bool,
-    pub waiting: bool,
-    pub fetches: bool,
 }
 
 // What the timing side tells the picture to do in a cycle: numbers and no picture value.
@@ -99,108 +58,6 @@ pub struct Orders {
 pub struct Turned {
     pub side: Side,
     pub orders: Orders,
-}
-
-fn raster_begun(begins: bool, raster: u16) -> u16
-    ensures { λ r. ⌜ r ≡ rasterBegun begins raster ⌝ }
-{
-    if begins {
-        return timing::next_line(raster);
-    }
-    raster
-}
-
-impl Frame {
-    pub fn new() -> Self
-        ensures { λ r. ⌜ r ≡ freshFrame ⌝ }
-    {
-        Self {
-            ending: false,
-            matched: false,
-            latch: false,
-        }
-    }
-
-    // The first cycle of a line: the last line waits, any other is compared and may latch DEN.
-    fn begin(self, begins: bool, last: bool, raster: u16, den: bool, compare: u16) -> Self
-        ensures { λ r. ⌜ r ≡ frameBegun self begins last raster den compare ⌝ }
-    {
-        if begins {
-            return Frame {
-                ending: self.ending | last,
-                matched: !last & (raster == compare),
-                latch: laws::pick_bool(raster == 0x30, den, self.latch),
-            };
-        }
-        self
-    }
-
-    // The frame's end, in the second cycle.
-    fn end(self, wraps: bool) -> Self
-        ensures { λ r. ⌜ r ≡ frameEnded self wraps ⌝ }
-    {
-        if wraps {
-            return Frame {
-                ending: false,
-                matched: self.matched,
-                latch: false,
-            };
-        }
-        self
-    }
-}
-
-fn raise(irq: Irq, raises: bool) -> Irq
-    ensures { λ r. ⌜ r ≡ raised irq raises ⌝ }
-{
-    if raises {
-        return irq.trigger(1);
-    }
-    irq
-}
-
-// A line begins, and a frame ends.
-fn line_ends(frame: Frame, irq: Irq, cycle: u16, raster: u16, den: bool, compare: u16) -> Swept
-    ensures { λ r. ⌜ r ≡ swept frame irq cycle raster den compare ⌝ }
-{
-    let begins = schedule::line_begins(cycle);
-    let last = begins & timing::at_last_line(raster);
-    let line = raster_begun(begins, raster);
-    let begun = frame.begin(begins, last, line, den, compare);
-    let wraps = schedule::frame_ends(cycle) & begun.ending;
-    let shown = laws::pick16(wraps, 0, line);
-    let ended = begun.end(wraps);
-    let told = raise(
-        irq,
-        (begun.matched & !frame.matched) | (wraps & (compare == 0)),
-    );
-    Swept {
-        line: line,
-        begun: begun,
-        wraps: wraps,
-        raster: shown,
-        frame: ended,
-        irq: told,
-    }
-}
-
-// Past the second cycle neither happens.
-fn line_turn(frame: Frame, irq: Irq, cycle: u16, raster: u16, den: bool, compare: u16) -> Swept
-    requires { ⌜ cycle < 64 ⌝ }
-    ensures { λ r. ⌜ r ≡ swept frame irq cycle raster den compare ⌝ }
-{
-    let later = 2 < cycle;
-    if later {
-        return Swept {
-            line: raster,
-            begun: frame,
-            wraps: false,
-            raster: raster,
-            frame: frame,
-            irq: irq,
-        };
-    }
-    line_ends(frame, irq, cycle, raster, den, compare)
 }
 
 // ---- the border's compares, each in its cycle
@@ -282,7 +139,7 @@ fn border_lit(b: Border, cycle: u16, raster: u16, den: bool, csel: bool) -> Bord
     requires { ⌜ happens graphicsAccess cycle ≡ Bool.true ⌝ }
     ensures { λ r. ⌜ r ≡ bordered cycle raster den csel b ⌝ }
 {
-    let past = 18 < cycle;
+    let past = schedule::past(cycle);
     if past {
         return b;
     }
@@ -304,7 +161,7 @@ fn border_dark(b: Border, cycle: u16, raster: u16, den: bool, csel: bool) -> Bor
     requires { ⌜ cycle < 64 ⌝ ∗ ⌜ happens graphicsAccess cycle ≡ Bool.false ⌝ }
     ensures { λ r. ⌜ r ≡ bordered cycle raster den csel b ⌝ }
 {
-    let still = ((2 <= cycle) & (cycle <= 55)) | ((58 <= cycle) & (cycle <= 62));
+    let still = schedule::between(cycle);
     if still {
         return b;
     }
@@ -370,7 +227,7 @@ fn sprites_dark(s: Sprites, cycle: u16, raster: u16, my: [u8; 8], enable: u8, ye
     requires { ⌜ cycle < 64 ⌝ ∗ ⌜ happens graphicsAccess cycle ≡ Bool.false ⌝ }
     ensures { λ r. ⌜ r ≡ phased cycle raster my enable yexp s ⌝ }
 {
-    let still = (cycle <= 15) | (59 <= cycle);
+    let still = schedule::calm(cycle);
     if still {
         return s;
     }
@@ -396,180 +253,11 @@ fn asked_lit(ba: bool, dma: u8, cycle: u16) -> bool
     requires { ⌜ happens graphicsAccess cycle ≡ Bool.true ⌝ }
     ensures { λ r. ⌜ r ≡ requested ba dma cycle ⌝ }
 {
-    let before = cycle < 55;
-    if before {
+    let early = schedule::early(cycle);
+    if early {
         return !ba;
     }
     arbitration::request(ba, dma, cycle)
-}
-
-// ---- the row counters
-
-fn vc_after(moves: bool, vc: u16) -> u16
-    ensures { λ r. ⌜ r ≡ vcAfter moves vc ⌝ }
-{
-    if moves {
-        return (vc % 1024 + 1) % 1024;
-    }
-    vc
-}
-
-fn vmli_after(moves: bool, vmli: u8) -> u8
-    ensures { λ r. ⌜ r ≡ vmliAfter moves vmli ⌝ }
-{
-    if moves {
-        return std::num::wrapping_add_u8(vmli, 1);
-    }
-    vmli
-}
-
-fn rc_after(goes: bool, rc: u8) -> u8
-    ensures { λ r. ⌜ r ≡ rcAfter goes rc ⌝ }
-{
-    if goes {
-        return (rc % 8 + 1) % 8;
-    }
-    rc
-}
-
-// Character accesses are chosen once a line, and end with it.
-fn access_after(chosen: bool, ends: bool, bad: bool, access: bool) -> bool
-    ensures { λ r. ⌜ r ≡ accessAfter chosen ends bad access ⌝ }
-{
-    if chosen {
-        return bad;
-    }
-    access & !ends
-}
-
-fn display_after(ends: bool, rc: u8, bad: bool, display: bool) -> bool
-    ensures { λ r. ⌜ r ≡ displayAfter ends rc bad display ⌝ }
-{
-    if ends {
-        return (display & (rc != 7)) | bad;
-    }
-    display
-}
-
-impl Rows {
-    pub fn new() -> Self
-        ensures { λ r. ⌜ r ≡ freshRows ⌝ }
-    {
-        Self {
-            vc: 0,
-            vcbase: 0,
-            rc: 0,
-            vmli: 0,
-            display: false,
-            transition: false,
-            access: false,
-        }
-    }
-}
-
-fn rows_turn(rows: Rows, cycle: u16, bad: bool, rising: bool, wraps: bool) -> Rowed
-    ensures { λ r. ⌜ r ≡ rowed cycle bad rising wraps rows ⌝ }
-{
-    let loads = schedule::vc_load(cycle);
-    let vc = laws::pick16(loads, rows.vcbase, rows.vc);
-    let vmli = laws::pick8(loads, 0, rows.vmli);
-    let rc = laws::pick8(loads & bad, 0, rows.rc);
-    let chosen = schedule::access_chosen(cycle);
-    let over = schedule::access_ends(cycle);
-    let access = access_after(chosen, over, bad, rows.access);
-    let graphics = schedule::graphics_access(cycle);
-    let display = rows.display | rising;
-    let waiting = rows.transition & !chosen;
-    let moves = graphics & display & !waiting;
-    let fetches = schedule::character_access(cycle) & access;
-    let ends = schedule::row_ends(cycle);
-    let shows = display_after(ends, rc, bad, display);
-    let based = laws::pick16(wraps, 0, rows.vcbase);
-    let base = laws::pick16(ends & (rc == 7), vc, based);
-    let next_vc = vc_after(moves, vc);
-    let next_vmli = vmli_after(moves, vmli);
-    let next_rc = rc_after(ends & shows, rc);
-    let next = Rows {
-        vc: next_vc,
-        vcbase: base,
-        rc: next_rc,
-        vmli: next_vmli,
-        display: shows,
-        transition: waiting & !graphics,
-        access: access,
-    };
-    Rowed {
-        rows: next,
-        vc: vc,
-        vmli: vmli,
-        rc: rc,
-        graphics: graphics,
-        moves: moves,
-        waiting: waiting,
-        fetches: fetches,
-    }
-}
-
-// A cycle with a graphics access: nothing is loaded and no row ends.
-fn rows_lit(rows: Rows, cycle: u16, bad: bool, rising: bool) -> Rowed
-    requires { ⌜ happens graphicsAccess cycle ≡ Bool.true ⌝ }
-    ensures { λ r. ⌜ r ≡ rowed cycle bad rising Bool.false rows ⌝ }
-{
-    let over = schedule::access_ends(cycle);
-    let access = rows.access & !over;
-    let display = rows.display | rising;
-    let moves = display & !rows.transition;
-    let next_vc = vc_after(moves, rows.vc);
-    let next_vmli = vmli_after(moves, rows.vmli);
-    let next = Rows {
-        vc: next_vc,
-        vcbase: rows.vcbase,
-        rc: rows.rc,
-        vmli: next_vmli,
-        display: display,
-        transition: false,
-        access: access,
-    };
-    Rowed {
-        rows: next,
-        vc: rows.vc,
-        vmli: rows.vmli,
-        rc: rows.rc,
-        graphics: true,
-        moves: moves,
-        waiting: rows.transition,
-        fetches: access,
-    }
-}
-
-// In most cycles without a graphics access no counter moves.
-fn rows_dark(rows: Rows, cycle: u16, bad: bool, rising: bool, wraps: bool) -> Rowed
-    requires { ⌜ cycle < 64 ⌝ }
-    ensures { λ r. ⌜ r ≡ rowed cycle bad rising wraps rows ⌝ }
-{
-    let still = !wraps & (((3 <= cycle) & (cycle <= 13)) | (59 <= cycle));
-    if still {
-        let next = Rows {
-            vc: rows.vc,
-            vcbase: rows.vcbase,
-            rc: rows.rc,
-            vmli: rows.vmli,
-            display: rows.display | rising,
-            transition: rows.transition,
-            access: rows.access,
-        };
-        return Rowed {
-            rows: next,
-            vc: rows.vc,
-            vmli: rows.vmli,
-            rc: rows.rc,
-            graphics: false,
-            moves: false,
-            waiting: rows.transition,
-            fetches: false,
-        };
-    }
-    rows_turn(rows, cycle, bad, rising, wraps)
 }
 
 // ---- the whole step
@@ -608,19 +296,9 @@ pub fn is_lit(cycle: u16) -> bool
     schedule::graphics_access(timing::next_cycle(cycle))
 }
 
-pub fn turn_lit(
-    side: Side,
-    den: bool,
-    rsel: bool,
-    yscroll: u8,
-    csel: bool,
-    compare: u16,
-    my: [u8; 8],
-    enable: u8,
-    yexp: u8,
-) -> Turned
+pub fn turn_lit(side: Side, g: Controls) -> Turned
     requires { ⌜ inRange (side .bus .clock) ⌝ ∗ ⌜ happens graphicsAccess (nextCycle (side .beam .cycle)) ≡ Bool.true ⌝ }
-    ensures { λ r. ⌜ r ≡ turned (controls den rsel yscroll csel compare my enable yexp) side ⌝ }
+    ensures { λ r. ⌜ r ≡ turned g side ⌝ }
 {
     let beam0 = side.beam;
     let frame0 = side.frame;
@@ -630,26 +308,35 @@ pub fn turn_lit(
     let rows0 = side.rows;
     let pending0 = side.pending;
     let bus0 = side.bus;
-    let clocked = bus0.clocked();
+    let my = g.my;
+    let clocked = bus0.clocked(1);
     let cycle = timing::next_cycle(beam0.cycle);
     let raster = beam0.raster;
-    let bad = timing::bad_line(raster, yscroll, frame0.latch);
-    let border = border_lit(border0, cycle, raster, den, csel);
-    let phased = sprites_lit(sprites0, cycle, raster, my, enable, yexp);
-    let beam = beam0.turn(cycle, raster, den, rsel, yscroll, bad);
+    let border = border_lit(border0, cycle, raster, g.den, g.csel);
+    let phased = sprites_lit(sprites0, cycle, raster, my, g.enable, g.yexp);
+    let beam = beam0.turn(
+        cycle,
+        false,
+        raster,
+        false,
+        raster,
+        g.den,
+        g.rsel,
+        g.yscroll,
+    );
     let asked = asked_lit(beam.ba, phased.dma, cycle);
     let bus = clocked.arbitrate(asked);
     let sprite = phased.at(0);
     let mask = laws::has_bit(phased.dma, 0);
-    let rowed = rows_lit(rows0, cycle, bad, beam.rising);
+    let rowed = rows::turn_lit(rows0, cycle, beam.bad, beam.rising);
     let rows = rowed.rows;
-    let pending = access::next_pending(rowed.fetches & !bus.aeclow, rows.vmli, pending0);
+    let pending = rows::next_pending(rowed.fetches & !bus.aeclow, rows.vmli, pending0);
     let orders = Orders {
         cycle: cycle,
         graphics: rowed.graphics,
         moves: rowed.moves,
         waiting: rowed.waiting,
-        plain: bad | (rowed.rc != 0),
+        plain: beam.bad | (rowed.rc != 0),
         hidden: border.disabled,
         vc: rowed.vc,
         vmli: rowed.vmli,
@@ -682,19 +369,9 @@ pub fn turn_lit(
     }
 }
 
-pub fn turn_dark(
-    side: Side,
-    den: bool,
-    rsel: bool,
-    yscroll: u8,
-    csel: bool,
-    compare: u16,
-    my: [u8; 8],
-    enable: u8,
-    yexp: u8,
-) -> Turned
+pub fn turn_dark(side: Side, g: Controls) -> Turned
     requires { ⌜ inRange (side .bus .clock) ⌝ ∗ ⌜ happens graphicsAccess (nextCycle (side .beam .cycle)) ≡ Bool.false ⌝ }
-    ensures { λ r. ⌜ r ≡ turned (controls den rsel yscroll csel compare my enable yexp) side ⌝ }
+    ensures { λ r. ⌜ r ≡ turned g side ⌝ }
 {
     let beam0 = side.beam;
     let frame0 = side.frame;
@@ -702,20 +379,27 @@ pub fn turn_dark(
     let border0 = side.border;
     let sprites0 = side.sprites;
     let rows0 = side.rows;
-    let earlier = side.pending;
+    let pending0 = side.pending;
     let bus0 = side.bus;
-    let clocked = bus0.clocked();
+    let my = g.my;
+    let clocked = bus0.clocked(1);
     let cycle = timing::next_cycle(beam0.cycle);
-    let swept = line_turn(frame0, irq0, cycle, beam0.raster, den, compare);
-    let begun = swept.begun;
+    let swept = raster::turn(frame0, irq0, cycle, beam0.raster, g.compare);
     let irq = swept.irq;
     let frame = swept.frame;
-    let wraps = swept.wraps;
     let raster = swept.raster;
-    let bad = timing::bad_line(swept.line, yscroll, begun.latch);
-    let border = border_dark(border0, cycle, raster, den, csel);
-    let phased = sprites_dark(sprites0, cycle, raster, my, enable, yexp);
-    let beam = beam0.turn(cycle, raster, den, rsel, yscroll, bad);
+    let border = border_dark(border0, cycle, raster, g.den, g.csel);
+    let phased = sprites_dark(sprites0, cycle, raster, my, g.enable, g.yexp);
+    let beam = beam0.turn(
+        cycle,
+        swept.begins,
+        swept.line,
+        swept.wraps,
+        raster,
+        g.den,
+        g.rsel,
+        g.yscroll,
+    );
     let asked = arbitration::request(beam.ba, phased.dma, cycle);
     let bus = clocked.arbitrate(asked);
     let k = schedule::slot_sprite(cycle);
@@ -726,15 +410,15 @@ pub fn turn_dark(
     let low = laws::pick_bool(after, bus.aeclow, bus0.aeclow);
     let pointing = schedule::pointer_time(cycle);
     let fetching = schedule::data_time(cycle);
-    let rowed = rows_dark(rows0, cycle, bad, beam.rising, wraps);
+    let rowed = rows::turn_dark(rows0, cycle, beam.bad, beam.rising, swept.wraps);
     let rows = rowed.rows;
-    let pending = access::next_pending(rowed.fetches & !bus.aeclow, rows.vmli, earlier);
+    let pending = rows::next_pending(rowed.fetches & !bus.aeclow, rows.vmli, pending0);
     let orders = Orders {
         cycle: cycle,
         graphics: rowed.graphics,
         moves: rowed.moves,
         waiting: rowed.waiting,
-        plain: bad | (rowed.rc != 0),
+        plain: beam.bad | (rowed.rc != 0),
         hidden: border.disabled,
         vc: rowed.vc,
         vmli: rowed.vmli,
@@ -774,60 +458,25 @@ pub fn only_counts(side: Side, yscroll: u8) -> bool
     ensures { λ r. ⌜ r ≡ onlyCounts yscroll side ⌝ }
 {
     let beam = side.beam;
-    let frame = side.frame;
     let bus = side.bus;
     let rows = side.rows;
-    let bad = timing::bad_line(beam.raster, yscroll, frame.latch);
+    let bad = timing::bad_line(beam.raster, yscroll, beam.latch);
     !bad & !bus.balow & !bus.aeclow & !rows.transition & !rows.access
 }
 
-fn vc_later(k: u8, moves: bool, vc: u16) -> u16
-    ensures { λ r. ⌜ r ≡ vcLater k moves vc ⌝ }
-{
-    if moves {
-        return (vc % 1024 + laws::wide(k)) % 1024;
-    }
-    vc
-}
-
-fn vmli_later(k: u8, moves: bool, vmli: u8) -> u8
-    ensures { λ r. ⌜ r ≡ vmliLater k moves vmli ⌝ }
-{
-    if moves {
-        return std::num::wrapping_add_u8(vmli, k);
-    }
-    vmli
-}
-
 // Some such ticks on.
-pub fn leap(side: Side, k: u8) -> Side
+pub fn leap(mut side: Side, k: u8) -> Side
     requires { ⌜ inRange (side .bus .clock) ⌝ ∗ ⌜ side .beam .cycle < 64 ⌝ }
     ensures { λ r. ⌜ r ≡ leapt k side ⌝ }
 {
     let mut beam = side.beam;
-    let mut bus = side.bus;
-    let mut rows = side.rows;
-    let irq = side.irq;
-    let frame = side.frame;
-    let border = side.border;
-    let sprites = side.sprites;
-    let pending = side.pending;
-    let clock = arbitration::clock_after(bus.clock, k);
-    let vc = vc_later(k, rows.display, rows.vc);
-    let vmli = vmli_later(k, rows.display, rows.vmli);
+    let bus = side.bus;
+    let rows = side.rows;
     beam.cycle = beam.cycle + laws::wide(k);
-    bus.clock = clock;
-    rows.vc = vc;
-    rows.vmli = vmli;
-    Side {
-        irq: irq,
-        beam: beam,
-        frame: frame,
-        border: border,
-        sprites: sprites,
-        bus: bus,
-        rows: rows,
-        pending: pending,
-        changed: side.changed,
-    }
+    let clocked = bus.clocked(k);
+    let counted = rows.later(k);
+    side.beam = beam;
+    side.bus = clocked;
+    side.rows = counted;
+    side
 }

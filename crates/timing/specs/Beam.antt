@@ -2,6 +2,7 @@
 use Prim.Native.Nat.{ℕ, _+_, _%_}
 use mathlib.Core.Bool.{Bool, true, false, not, _&&_, cond}
 use lib.Dec.{eqb, leb, ltb}
+use Rattle.laws.specs.Pick.{pick}
 use Rattle.schedule.specs.Kind.{lastCycle, lastLine}
 use Rattle.schedule.specs.Diagram.{happens, matrixRequest}
 use Rattle.timing.specs.declared.Beam.{Beam}
@@ -9,6 +10,10 @@ use Rattle.timing.specs.declared.Beam.{Beam}
 -- Bauer 3.5: lines 0x30 to 0xF7 whose low three bits equal YSCROLL, where DEN was latched on line 0x30
 unfoldable pub badLine : ℕ → ℕ → Bool → Bool
 badLine raster yscroll latch = leb 0x30 raster && leb raster 0xF7 && eqb (raster % 8) yscroll && latch
+
+-- Bauer 3.5, and departs, DIFFERENCES 2: DEN is latched on line 0x30, where the line begins and there only
+unfoldable pub latched : Bool → ℕ → Bool → Bool → Bool
+latched begins line den latch = pick (begins && eqb line 0x30) den latch
 
 -- Bauer 3.7.2 rule 3: a bad line holds BA low while the matrix asks; true is high
 unfoldable pub baOutput : Bool → ℕ → Bool
@@ -27,9 +32,22 @@ nextLine raster = cond (ltb raster lastLine) (raster + 1) raster
 
 -- 01, power-up: the state before the first tick of a frame
 unfoldable pub fresh : Beam
-fresh = record { cycle = lastCycle; raster = lastLine; den = false; rsel = false; yscroll = 0; bad = false; rising = false; ba = true }
+fresh = record { cycle = lastCycle; raster = lastLine; den = false; rsel = false; yscroll = 0; latch = false; bad = false; rising = false; ba = true }
 
--- 01, tick 1 to 3: the cycle and the line, the control bits as latched, the live bad line with its rise, and the BA output
-abbrev pub beamTurned : Beam → ℕ → ℕ → Bool → Bool → ℕ → Bool → Beam
-beamTurned b cycle raster den rsel yscroll bad =
-    record { cycle = cycle; raster = raster; den = den; rsel = rsel; yscroll = yscroll; bad = bad; rising = bad && not (b .bad); ba = baOutput bad cycle }
+-- 01, tick 1 to 4: the cycle and the line, the control bits as latched, the live bad line with its rise, and the BA output.
+-- The bad line is that of the line and the latch before a frame's end, which puts the raster at 0 and the latch off.
+unfoldable pub beamTurned : Beam → ℕ → Bool → ℕ → Bool → ℕ → Bool → Bool → ℕ → Beam
+beamTurned b cycle begins line wraps raster den rsel yscroll =
+    let latch = latched begins line den (b .latch) in
+    let bad = badLine line yscroll latch in
+    record {
+      cycle = cycle;
+      raster = raster;
+      den = den;
+      rsel = rsel;
+      yscroll = yscroll;
+      latch = latch && not wraps;
+      bad = bad;
+      rising = bad && not (b .bad);
+      ba = baOutput bad cycle;
+    }

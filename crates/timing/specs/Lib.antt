@@ -1,1 +1,2 @@
 pub mod Beam
+pub mod Set

@@ -1,7 +1,7 @@
-// The beam: cycle and raster line, the bad line condition, and the BA output that a bad line asks for.
+// The beam: cycle and raster line, the DEN latch, the bad line with its rise, and the BA output that a bad line asks for.
 ghost use mathlib.Core.Path.{_≡_};
 ghost use mathlib.Core.Bool.{Bool};
-ghost use Rattle.timing.specs.Beam.{badLine, baOutput, nextCycle, atLastLine, nextLine, fresh, beamTurned};
+ghost use Rattle.timing.specs.Beam.{badLine, latched, baOutput, nextCycle, atLastLine, nextLine, fresh, beamTurned};
 
 pub struct Beam {
     pub cycle: u16,
@@ -9,6 +9,8 @@ pub struct Beam {
     pub den: bool,
     pub rsel: bool,
     pub yscroll: u8,
+    // DEN was set on line 0x30
+    pub latch: bool,
     pub bad: bool,
     pub rising: bool,
     // true is high: the matrix asks for nothing
@@ -22,6 +24,13 @@ pub fn bad_line(raster: u16, yscroll: u8, latch: bool) -> bool
     (0x30 <= raster) & (raster <= 0xF7) & (raster % 8 == laws::wide(yscroll)) & latch
 }
 
+// The DEN latch: line 0x30 stores DEN where it begins.
+fn latched(begins: bool, line: u16, den: bool, latch: bool) -> bool
+    ensures { λ r. ⌜ r ≡ latched begins line den latch ⌝ }
+{
+    laws::pick_bool(begins & (line == 0x30), den, latch)
+}
+
 // The level of the BA output: low where a bad line asks for the matrix.
 pub fn ba_output(bad: bool, cycle: u16) -> bool
     ensures { λ r. ⌜ r ≡ baOutput bad cycle ⌝ }
@@ -32,20 +41,28 @@ pub fn ba_output(bad: bool, cycle: u16) -> bool
 pub fn next_cycle(cycle: u16) -> u16
     ensures { λ r. ⌜ r ≡ nextCycle cycle ⌝ }
 {
-    if cycle < 63 { cycle + 1 } else { 1 }
+    if cycle < schedule::LAST_CYCLE {
+        cycle + 1
+    } else {
+        1
+    }
 }
 
 pub fn at_last_line(raster: u16) -> bool
     ensures { λ r. ⌜ r ≡ atLastLine raster ⌝ }
 {
-    311 <= raster
+    schedule::LAST_LINE <= raster
 }
 
 // The line after this one; the last one waits for the frame's end.
 pub fn next_line(raster: u16) -> u16
     ensures { λ r. ⌜ r ≡ nextLine raster ⌝ }
 {
-    if raster < 311 { raster + 1 } else { raster }
+    if raster < schedule::LAST_LINE {
+        raster + 1
+    } else {
+        raster
+    }
 }
 
 impl Beam {
@@ -54,34 +71,40 @@ impl Beam {
         ensures { λ r. ⌜ r ≡ fresh ⌝ }
     {
         Self {
-            cycle: 63,
-            raster: 311,
+            cycle: schedule::LAST_CYCLE,
+            raster: schedule::LAST_LINE,
             den: false,
             rsel: false,
             yscroll: 0,
+            latch: false,
             bad: false,
             rising: false,
             ba: true,
         }
     }
 
-    // The beam after a tick: where it is, the control bits that the tick found, the bad line and its rise, and BA.
+    // The beam after a tick: where it is, the control bits that the tick found, the latch, the bad line and its rise, and BA.
     pub fn turn(
         mut self,
         cycle: u16,
+        begins: bool,
+        line: u16,
+        wraps: bool,
         raster: u16,
         den: bool,
         rsel: bool,
         yscroll: u8,
-        bad: bool,
     ) -> Self
-        ensures { λ r. ⌜ r ≡ beamTurned self cycle raster den rsel yscroll bad ⌝ }
+        ensures { λ r. ⌜ r ≡ beamTurned self cycle begins line wraps raster den rsel yscroll ⌝ }
     {
+        let latch = latched(begins, line, den, self.latch);
+        let bad = bad_line(line, yscroll, latch);
         self.cycle = cycle;
         self.raster = raster;
         self.den = den;
         self.rsel = rsel;
         self.yscroll = yscroll;
+        self.latch = latch & !wraps;
         self.rising = bad & !self.bad;
         self.bad = bad;
         self.ba = ba_output(bad, cycle);

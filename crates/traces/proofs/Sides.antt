@@ -11,6 +11,7 @@ use Rattle.registers.specs.Irq.{asked, settled, triggered}
 use Rattle.schedule.specs.Diagram.{happens, pointerTime, dataTime, slotSprite}
 use Rattle.schedule.specs.Requests.{maskAt}
 use Rattle.timing.specs.Beam as Beams
+use Rattle.timing.specs.Set.{raster≔, den≔, rsel≔, yscroll≔, latch≔}
 use Rattle.border.specs.declared.Border.{Border}
 use Rattle.border.specs.Border as Borders
 use Rattle.sprites.specs.declared.Sprite.{Sprite}
@@ -18,14 +19,16 @@ use Rattle.sprites.specs.declared.Sprites.{Sprites}
 use Rattle.sprites.specs.Sprites as Sprites
 use Rattle.arbitration.specs.declared.Bus.{Bus}
 use Rattle.arbitration.specs.Bus as Buses
-use Rattle.access.specs.Matrix.{pendingAfter}
-use Rattle.access.specs.declared.Pending.the-variants.{Nothing}
-use Rattle.side.specs.declared.Rows.{Rows}
+use Rattle.arbitration.specs.Set.{clock≔, fall≔, rise≔, aec≔, balow≔}
+use Rattle.rows.specs.Pending.{pendingAfter}
+use Rattle.rows.specs.declared.Pending.the-variants.{Nothing}
+use Rattle.rows.specs.declared.Rows.{Rows}
 use Rattle.side.specs.declared.Side.{Side}
-use Rattle.side.specs.Frame as Frames
-use Rattle.side.specs.Rows as Rows
+use Rattle.raster.specs.Frame as Frames
+use Rattle.rows.specs.Rows as Rows
 use Rattle.side.specs.Phases as Phases
-use Rattle.side.specs.Turn.{Controls, freshSide, turned}
+use Rattle.registers.specs.declared.Controls.{Controls}
+use Rattle.side.specs.Turn.{freshSide, turned}
 use Rattle.traces.specs.Traces.{screen, begun, later, fromPowerUp}
 
 abbrev shut : Border
@@ -63,10 +66,10 @@ used flip = three (sprite 0 63 63 false) (sprite 3 63 63 false) (sprite 7 63 63 
 
 -- the clock and BA's edges, without a request; with sprite 3's of the last three cycles
 abbrev free : ℕ → ℕ → ℕ → Bus
-free clock fall rise = record { clock = pos clock; fall = pos fall; rise = pos rise; aec = pos 3; balow = false; aeclow = false }
+free clock fall rise = clock≔ (pos clock) (fall≔ (pos fall) (rise≔ (pos rise) Buses.fresh))
 
 abbrev warned : ℕ → ℕ → ℕ → Bus
-warned clock fall rise = record { clock = pos clock; fall = pos fall; rise = pos rise; aec = pos 0; balow = true; aeclow = false }
+warned clock fall rise = aec≔ (pos 0) (balow≔ true (free clock fall rise))
 
 abbrev row : ℕ → ℕ → ℕ → ℕ → Bool → Rows
 row vc vcbase rc vmli display = record { vc = vc; vcbase = vcbase; rc = rc; vmli = vmli; display = display; transition = false; access = false }
@@ -76,8 +79,8 @@ abbrev past : ℕ → ℕ → Bool → Border → Sprites → Bus → Rows → S
 past line flags latch border sprites bus rows =
     record {
       irq = record { flags = flags; enable = 0; line = false };
-      beam = record { cycle = 63; raster = line; den = true; rsel = true; yscroll = 3; bad = false; rising = false; ba = true };
-      frame = record { ending = false; matched = false; latch = latch };
+      beam = raster≔ line (den≔ true (rsel≔ true (yscroll≔ 3 (latch≔ latch Beams.fresh))));
+      frame = Frames.fresh;
       border = border;
       sprites = sprites;
       bus = bus;
@@ -119,7 +122,7 @@ before-312 = past 311 1 true shut (fetching 15 12 6 12 0xF7) (warned 39312 39308
 
 -- one tick, with all that it computes with: to unfold this is to unfold them
 unfoldable pub ticked : Controls → Side → Side
-unfolding hasBit withBit withoutBit pick asked settled triggered happens pointerTime dataTime slotSprite maskAt Beams.badLine Beams.baOutput Beams.nextCycle Beams.atLastLine Beams.nextLine Beams.fresh Borders.compared Borders.switched Borders.lineBegun Borders.lineEnded Borders.opened Borders.leftPassed Borders.leftPart Borders.left40Passed Borders.left38Passed Borders.right38Passed Borders.right40Passed Sprites.fresh Sprites.allFresh Sprites.spriteAt Sprites.upTo Sprites.crunched Sprites.nextBase Sprites.stepped Sprites.stepOne Sprites.mcbaseStepped Sprites.dmaBegun Sprites.startOne Sprites.started Sprites.firstPhased Sprites.secondPhased Sprites.loadOne Sprites.loaded Sprites.showOne Sprites.shown Sprites.mcLoaded Sprites.fetches Sprites.fetched Buses.fresh Buses.clockOn Buses.clocked Buses.spriteAsks Buses.requested Buses.aecAfter Buses.low Buses.arbitrated pendingAfter Frames.freshFrame Frames.rasterBegun Frames.frameBegun Frames.frameEnded Frames.raised Frames.swept Rows.freshRows Rows.vcAfter Rows.vmliAfter Rows.rcAfter Rows.accessAfter Rows.displayAfter Rows.rowed Phases.beginAt Phases.left40At Phases.left38At Phases.right38At Phases.right40At Phases.rememberAt Phases.endAt Phases.bordered Phases.stepAt Phases.firstAt Phases.secondAt Phases.loadAt Phases.phased Phases.slotMoved freshSide turned
+unfolding hasBit withBit withoutBit pick asked settled triggered happens pointerTime dataTime slotSprite maskAt Beams.badLine Beams.baOutput Beams.nextCycle Beams.atLastLine Beams.nextLine Beams.fresh Beams.latched Beams.beamTurned Borders.compared Borders.switched Borders.lineBegun Borders.lineEnded Borders.opened Borders.leftPassed Borders.leftPart Borders.left40Passed Borders.left38Passed Borders.right38Passed Borders.right40Passed Sprites.fresh Sprites.allFresh Sprites.spriteAt Sprites.upTo Sprites.crunched Sprites.nextBase Sprites.stepped Sprites.stepOne Sprites.mcbaseStepped Sprites.dmaBegun Sprites.startOne Sprites.started Sprites.firstPhased Sprites.secondPhased Sprites.loadOne Sprites.loaded Sprites.showOne Sprites.shown Sprites.mcLoaded Sprites.fetches Sprites.fetched Buses.fresh Buses.clockOn Buses.clocked Buses.spriteAsks Buses.requested Buses.aecAfter Buses.low Buses.arbitrated pendingAfter Frames.fresh Frames.matchRaises Frames.rasterBegun Frames.frameBegun Frames.frameEnded Frames.raised Frames.swept Rows.fresh Rows.vcAfter Rows.vmliAfter Rows.rcAfter Rows.accessAfter Rows.displayAfter Rows.rowed Phases.beginAt Phases.left40At Phases.left38At Phases.right38At Phases.right40At Phases.rememberAt Phases.endAt Phases.bordered Phases.stepAt Phases.firstAt Phases.secondAt Phases.loadAt Phases.phased Phases.slotMoved freshSide turned
 ticked g s = turned g s .side
 
 -- each from the one before

@@ -9,28 +9,20 @@ use Rattle.laws.specs.Bits.{hasBit}
 use Rattle.border.specs.Border.{compared}
 use Rattle.sprites.specs.Sprites.{spriteAt}
 use Rattle.side.specs.declared.Side.{Side}
-use Rattle.side.specs.Turn.{Controls, controls, freshSide, turned}
+use Rattle.registers.specs.declared.Controls.{Controls}
+use Rattle.side.specs.Set.{border≔}
+use Rattle.side.specs.Turn.{freshSide, turned}
 
 -- The run
 
 -- A text screen of 25 rows and 40 columns: DEN, RSEL and CSEL set, YSCROLL 3. Sprites 0, 3 and 7 are enabled, every Y is 51, and sprite 3 is Y-expanded.
 abbrev pub screen : ℕ → Controls
-screen compare = controls true true 3 true compare (replicate 8 51) 0x89 0x08
+screen compare =
+    record { den = true; rsel = true; yscroll = 3; csel = true; compare = compare; my = replicate 8 51; enable = 0x89; yexp = 0x08 }
 
 -- power-up, but the border has taken the compares of RSEL set (the call `border_compares`); the next tick is cycle 1 of the first frame
 abbrev pub begun : Side
-begun =
-    record {
-      irq = freshSide .irq;
-      beam = freshSide .beam;
-      frame = freshSide .frame;
-      border = compared (freshSide .border) true;
-      sprites = freshSide .sprites;
-      bus = freshSide .bus;
-      rows = freshSide .rows;
-      pending = freshSide .pending;
-      changed = freshSide .changed;
-    }
+begun = border≔ (compared (freshSide .border) true) freshSide
 
 -- n ticks on
 abbrev pub later : Controls → ℕ → Side → Side
@@ -128,7 +120,7 @@ abbrev pub flagsOf : List Side → List (ℕ × ℕ)
 flagsOf sides = column (λ s. s .irq .flags) sides
 
 abbrev pub latchOf : List Side → List (ℕ × Bool)
-latchOf sides = column (λ s. s .frame .latch) sides
+latchOf sides = column (λ s. s .beam .latch) sides
 
 -- BA and AEC; the vertical and the main border flip-flop
 abbrev pub busOf : List Side → List (ℕ × (Bool × Bool))

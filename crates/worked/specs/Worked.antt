@@ -10,8 +10,8 @@ use Rattle.timing.specs.Beam.{badLine}
 use Rattle.sprites.specs.Sprites.{crunched, nextBase, stepped}
 use Rattle.sprites.specs.declared.Sprite.{Sprite}
 use Rattle.access.specs.Matrix.{lateWord}
-use Rattle.side.specs.declared.Rows.{Rows}
-use Rattle.side.specs.Rows.{vcAfter, vmliAfter, rcAfter, accessAfter, displayAfter, rowed}
+use Rattle.rows.specs.declared.Rows.{Rows}
+use Rattle.rows.specs.Rows.{vcAfter, vmliAfter, rcAfter, accessAfter, displayAfter, rowed}
 
 -- sprite 0 with these counters
 abbrev sprite : ℕ → ℕ → Bool → Sprite

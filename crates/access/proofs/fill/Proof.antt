@@ -1,5 +1,5 @@
 use native.Mathlib.Omega.{arith}
-use Rattle.access.proofs.Laws.{place-small}
+use Rattle.rows.proofs.Laws.{place-small}
 use Rattle.access.specs.Matrix.{filled}
 use borrow.Author.Needs.{needs}
 use Rattle.access.proofs.fill.Statement.{statement}

@@ -1,6 +1,6 @@
 use Rattle.access.specs.Merge.{latched}
 use native.Mathlib.Omega.{arith}
-use Rattle.access.proofs.Laws.{place-small}
+use Rattle.rows.proofs.Laws.{place-small}
 use borrow.Author.Needs.{needs}
 use Rattle.access.proofs.latched_char.Statement.{statement}
 use Rattle.access.proofs.latched_char.Tie as tie

@@ -1,7 +1,7 @@
 use Rattle.access.specs.Merge.{merged}
 use borrow.Author.Tests.{le-leb, lt-leb}
 use native.Mathlib.Omega.{arith}
-use Rattle.access.proofs.Laws.{place-small}
+use Rattle.rows.proofs.Laws.{place-small}
 use borrow.Author.Needs.{needs}
 use Rattle.access.proofs.merge.Statement.{statement}
 use Rattle.access.proofs.merge.Tie as tie

@@ -1,6 +1,7 @@
 use Rattle.access.specs.Merge.{mergedAt}
 use native.Mathlib.Omega.{arith}
-use Rattle.access.proofs.Laws.{previous-small, place-small}
+use Rattle.rows.proofs.Laws.{place-small}
+use Rattle.access.proofs.Laws.{previous-small}
 use lib.ListN.{length-set}
 use borrow.Author.Needs.{needs}
 use Rattle.access.proofs.merge_at.Statement.{statement}

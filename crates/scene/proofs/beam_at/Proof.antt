@@ -26,8 +26,11 @@ shared-slice-read-t16 c = search needs
 shared-slice-read-t19 : tie.Need-shared-slice-read-t19
 shared-slice-read-t19 c = search needs
 
+shared-slice-read-t22 : tie.Need-shared-slice-read-t22
+shared-slice-read-t22 c = search needs
+
 returns : tie.Need-returns
-returns c = simp (c .before .before .before .before .before .before .word-at2 .ensures, c .before .before .before .before .before .before .before .word-at .ensures)
+returns c = simp (c .before .before .before .before .before .before .before .word-at2 .ensures, c .before .before .before .before .before .before .before .before .word-at .ensures)
 
 pub beam-at-spec : {M : Type 1} → statement M
 beam-at-spec =
@@ -41,4 +44,5 @@ beam-at-spec =
     shared-slice-read-t13
     shared-slice-read-t16
     shared-slice-read-t19
+    shared-slice-read-t22
     returns)

@@ -23,10 +23,10 @@ same-length c = search needs
 
 returns : tie.Need-returns
 returns c =
-    let start = c .before .before .before .before .before .before .before .before .before .before .before .before in
+    let start = c .before .before .before .before .before .before .before .before .before .before .before .before .before in
     let s = start .args .s in
     let aec = rw (back8 (s .bus .aec) (c .before .before .before .before .before .before .before .struct-told .given .1 .1 .1 .0 .1)) at (c .before .before .before .before .before .before .count-byte .ensures) in
-    put-as _ 275 (c .before .before .put .ensures) (c .before .before .before .before .before .rest-bytes .ensures ∙ ap (restBytes (s .rows) (s .bus) (s .changed) (start .args .pen) (s .frame)) aec) refl
+    put-as _ 275 (c .before .before .put .ensures) (c .before .before .before .before .before .rest-bytes .ensures ∙ ap (restBytes (s .rows) (s .bus) (s .changed) (start .args .pen) (s .beam .latch) (s .frame)) aec) refl
 
 pub put-rest-spec : {M : Type 1} → statement M
 put-rest-spec =

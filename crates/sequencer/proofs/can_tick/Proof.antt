@@ -1,5 +1,5 @@
 use mir.Facts.{toZ-ofZ}
-use Rattle.sequencer.proofs.Parts.{is-tickable}
+use Rattle.sequencer.proofs.Clock.{is-tickable}
 use Rattle.sequencer.proofs.can_tick.Statement.{statement}
 use Rattle.sequencer.proofs.can_tick.Tie as tie
 

@@ -3,9 +3,10 @@ use mathlib.Core.Bool.{Bool, not}
 use Prim.Native.Nat.{ℕ, _-_}
 use native.Mathlib.Omega.{arith}
 use borrow.Author.Needs.{needs}
+use Rattle.memory.specs.Lent.{host}
 use Rattle.schedule.specs.Diagram.{happens, graphicsAccess}
 use Rattle.timing.specs.Beam.{nextCycle}
-use Rattle.sequencer.specs.Chip.{host, world}
+use Rattle.sequencer.specs.World.{world}
 use Rattle.sequencer.proofs.Runs.{ready}
 use Rattle.sequencer.proofs.Staged.{Parting, started, tickable-now, further, stopped-at, ended-at}
 use Rattle.sequencer.proofs.dark_run.Statement.{statement}

@@ -1,31 +1,23 @@
 use Rattle.laws.proofs.Signs.{back64}
+use Rattle.memory.specs.Lent.{host}
 use Rattle.side.proofs.Laws.{slot-of-eight, dark-graphics}
-use Rattle.sequencer.specs.Chip.{host, world}
+use Rattle.sequencer.specs.World.{world}
 use Rattle.sequencer.proofs.Glue.{can-range, tick-glue}
 use borrow.Author.Needs.{needs}
 use Rattle.sequencer.proofs.inner_dark.Statement.{statement}
 use Rattle.sequencer.proofs.inner_dark.Tie as tie
 
-den-requires : tie.Need-den-requires
-den-requires c κs = search needs
-
-rsel-requires : tie.Need-rsel-requires
-rsel-requires c κs = search needs
-
-yscroll-requires : tie.Need-yscroll-requires
-yscroll-requires c κs = search needs
-
-csel-requires : tie.Need-csel-requires
-csel-requires c κs = search needs
+timed-requires : tie.Need-timed-requires
+timed-requires c κs = search needs
 
 turn-dark-requires : tie.Need-turn-dark-requires
 turn-dark-requires c κs =
-    let start = c .before .before .before .before .before .before .before .before .before .before .before .before .before .before in
+    let start = c .before .before .before .before .before .before .before .before .before .before in
     (can-range (start .args .core .side .bus .clock) (start .pre .0 .clock), start .pre .1)
 
 slot-requires : tie.Need-slot-requires
 slot-requires c κs =
-    let pre = c .before .before .before .before .before .before .before .before .before .before .before .before .before .before .before .before .before .before .before .before .before .pre .0 in
+    let pre = c .before .before .before .before .before .before .before .before .before .before .before .before .before .before .before .before .before .pre .0 in
     ((pre .eight, pre .threes, pre .eightWords), (rw (c .before .before .before .before .before .before .turn-dark .ensures) (slot-of-eight _ _), pre .lent))
 
 mode-requires : tie.Need-mode-requires
@@ -33,7 +25,7 @@ mode-requires c κs = search needs
 
 draw-dark-requires : tie.Need-draw-dark-requires
 draw-dark-requires c κs =
-    let start = c .before .before .before .before .before .before .before .before .before .before .before .before .before .before .before .before .before .before .before .before .before .before .before .before .before .before .before .before .before .before .before in
+    let start = c .before .before .before .before .before .before .before .before .before .before .before .before .before .before .before .before .before .before .before .before .before .before .before .before .before .before .before in
     let pre = start .pre .0 in
     (pre .forty, (rw (c .before .before .before .before .before .before .before .before .before .before .before .before .before .before .before .before .turn-dark .ensures) (dark-graphics _ _ (start .pre .1)), (pre .lent, pre .colour)))
 
@@ -51,17 +43,14 @@ same-length-4 c = search needs
 
 returns : tie.Need-returns
 returns c =
-    let start = c .before .before .before .before .before .before .before .before .before .before .before .before .before .before .before .before .before .before .before .before .before .before .before .before .before .before .before .before .before .before .before .before .before .before .args in
+    let start = c .before .before .before .before .before .before .before .before .before .before .before .before .before .before .before .before .before .before .before .before .before .before .before .before .before .before .before .before .before .before .args in
     let slot = c .before .before .before .before .before .before .before .before .before .before .before .before .slot .ensures in
     let draw = c .before .before .draw-dark .ensures in
     let back = back64 (c .before .before .before .before .before .before .before .before .before .before .before .before .before .before .before .before .before .before .before .turn-dark .result .side .bus .clock) (c .before .before .before .struct-told .given .0 .1) in
     let h = host (start .ram .now) (start .rom .now) (start .colour .now) (start .bank) in
     let w = world (start .core) (start .matrix .now) (start .pointers .now) (start .bytes .now) (start .words .now) in
     tick-glue h (start .regs) w
-    (c .before .before .before .before .before .before .before .before .before .before .before .before .before .before .before .before .before .before .before .before .before .before .before .den .ensures)
-    (c .before .before .before .before .before .before .before .before .before .before .before .before .before .before .before .before .before .before .before .before .before .before .rsel .ensures)
-    (c .before .before .before .before .before .before .before .before .before .before .before .before .before .before .before .before .before .before .before .before .before .yscroll .ensures)
-    (c .before .before .before .before .before .before .before .before .before .before .before .before .before .before .before .before .before .before .before .before .csel .ensures)
+    (c .before .before .before .before .before .before .before .before .before .before .before .before .before .before .before .before .before .before .before .before .timed .ensures)
     (c .before .before .before .before .before .before .before .before .before .before .before .before .before .before .before .before .before .before .before .turn-dark .ensures)
     (slot .0) (slot .1 .0) (slot .1 .1)
     (c .before .before .before .before .before .mode .ensures)
@@ -71,10 +60,7 @@ pub inner-dark-spec : {M : Type 1} → statement M
 inner-dark-spec =
     tie.close
     (tie.spec
-    den-requires
-    rsel-requires
-    yscroll-requires
-    csel-requires
+    timed-requires
     turn-dark-requires
     slot-requires
     mode-requires

@@ -2,32 +2,24 @@ use mathlib.Core.Path.{_≡_, ap}
 use mathlib.Core.Bool.{false}
 use Rattle.laws.proofs.Signs.{back64}
 use Rattle.laws.specs.Clock.{inRange}
+use Rattle.memory.specs.Lent.{host}
 use Rattle.arbitration.proofs.Kept.{clock-on-range}
 use Rattle.side.proofs.Laws.{lit-pointing, lit-fetching}
 use Rattle.side.proofs.Kept.{side-clock}
 use Rattle.picture.specs.Pen.{Latches}
 use Rattle.picture.proofs.Laws.{no-slot}
-use Rattle.sequencer.specs.Chip.{host, world}
+use Rattle.sequencer.specs.World.{world}
 use Rattle.sequencer.proofs.Glue.{can-range, tick-glue}
 use borrow.Author.Needs.{needs}
 use Rattle.sequencer.proofs.inner_lit.Statement.{statement}
 use Rattle.sequencer.proofs.inner_lit.Tie as tie
 
-den-requires : tie.Need-den-requires
-den-requires c κs = search needs
-
-rsel-requires : tie.Need-rsel-requires
-rsel-requires c κs = search needs
-
-yscroll-requires : tie.Need-yscroll-requires
-yscroll-requires c κs = search needs
-
-csel-requires : tie.Need-csel-requires
-csel-requires c κs = search needs
+timed-requires : tie.Need-timed-requires
+timed-requires c κs = search needs
 
 turn-lit-requires : tie.Need-turn-lit-requires
 turn-lit-requires c κs =
-    let start = c .before .before .before .before .before .before .before .before .before .before .before .before .before .before in
+    let start = c .before .before .before .before .before .before .before .before .before .before in
     (can-range (start .args .core .side .bus .clock) (start .pre .0 .clock), start .pre .1)
 
 mode-requires : tie.Need-mode-requires
@@ -35,7 +27,7 @@ mode-requires c κs = search needs
 
 draw-requires : tie.Need-draw-requires
 draw-requires c κs =
-    let start = c .before .before .before .before .before .before .before .before .before .before .before .before .before .before .before .before .before .before .before .before .before in
+    let start = c .before .before .before .before .before .before .before .before .before .before .before .before .before .before .before .before .before in
     let pre = start .pre .0 in
     let turned = c .before .before .before .before .before .before .turn-lit in
     let clock : inRange (turned .result .side .bus .clock) = rw (turned .ensures, side-clock) (clock-on-range (start .args .core .side .bus .clock) (pre .clock)) in
@@ -46,7 +38,7 @@ same-length c = search needs
 
 returns : tie.Need-returns
 returns c =
-    let start = c .before .before .before .before .before .before .before .before .before .before .before .before .before .before .before .before .before .before .before .before .before .before .before .before in
+    let start = c .before .before .before .before .before .before .before .before .before .before .before .before .before .before .before .before .before .before .before .before in
     let args = start .args in
     let turned = c .before .before .before .before .before .before .before .before .before .turn-lit in
     let draw = c .before .before .draw .ensures in
@@ -57,10 +49,7 @@ returns c =
     let fetching : turned .result .orders .fetching ≡ false = rw (turned .ensures) (lit-fetching _ _ (start .pre .1)) in
     let none = no-slot (args .pointers .now) (args .bytes .now) (args .words .now) (turned .result .orders) (args .regs .ptrs) (args .ram .now) (args .rom .now) (args .bank) pointing fetching in
     tick-glue h (args .regs) w
-    (c .before .before .before .before .before .before .before .before .before .before .before .before .before .den .ensures)
-    (c .before .before .before .before .before .before .before .before .before .before .before .before .rsel .ensures)
-    (c .before .before .before .before .before .before .before .before .before .before .before .yscroll .ensures)
-    (c .before .before .before .before .before .before .before .before .before .before .csel .ensures)
+    (c .before .before .before .before .before .before .before .before .before .before .timed .ensures)
     (turned .ensures)
     (ap (λ (l : Latches). l .pointers) none) (ap (λ (l : Latches). l .bytes) none) (ap (λ (l : Latches). l .words) none)
     (c .before .before .before .before .before .mode .ensures)
@@ -70,10 +59,7 @@ pub inner-lit-spec : {M : Type 1} → statement M
 inner-lit-spec =
     tie.close
     (tie.spec
-    den-requires
-    rsel-requires
-    yscroll-requires
-    csel-requires
+    timed-requires
     turn-lit-requires
     mode-requires
     draw-requires

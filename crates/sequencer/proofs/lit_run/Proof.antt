@@ -4,10 +4,11 @@ use Prim.Native.Nat.{ℕ, _-_}
 use native.Mathlib.Omega.{arith}
 use borrow.Author.Needs.{needs}
 use borrow.Author.Tests.{not-true, not-false}
+use Rattle.memory.specs.Lent.{host}
 use Rattle.schedule.specs.Diagram.{happens, graphicsAccess}
 use Rattle.timing.specs.Beam.{nextCycle}
-use Rattle.sequencer.specs.Chip.{host, world}
-use Rattle.sequencer.proofs.Kept.{accepted-fine}
+use Rattle.sequencer.specs.World.{world}
+use Rattle.chip.proofs.Fine.{accepted-fine}
 use Rattle.sequencer.proofs.Staged.{Parting, started, stopped-at, ended-at}
 use Rattle.sequencer.proofs.Skip.{ready-later, lit-later, further-by, few, place, may}
 use Rattle.sequencer.proofs.lit_run.Statement.{statement}

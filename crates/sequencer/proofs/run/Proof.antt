@@ -4,7 +4,8 @@ use native.Mathlib.Omega.{arith}
 use borrow.Author.Needs.{needs}
 use borrow.Author.Tests.{not-true, not-false}
 use Rattle.laws.proofs.Signs.{back64}
-use Rattle.sequencer.specs.Chip.{host, world}
+use Rattle.memory.specs.Lent.{host}
+use Rattle.sequencer.specs.World.{world}
 use Rattle.sequencer.proofs.Runs.{Going, begun, ready, no-more, all-done}
 use Rattle.sequencer.proofs.Staged.{carried}
 use Rattle.sequencer.proofs.run.Statement.{statement}

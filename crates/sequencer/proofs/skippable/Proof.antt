@@ -1,5 +1,5 @@
 use borrow.Author.Needs.{needs}
-use Rattle.sequencer.specs.Skip.{skippableBy}
+use Rattle.sequencer.specs.Machinery.Skip.{skippableBy}
 use Rattle.sequencer.proofs.skippable.Statement.{statement}
 use Rattle.sequencer.proofs.skippable.Tie as tie
 

@@ -7,6 +7,9 @@ use Rattle.sequencer.proofs.skips.Tie as tie
 returns : tie.Need-returns
 returns c = let start = c .before .args in skips-none (start .able) (start .cycle) (start .left) (c .if1 .taken)
 
+add-most : tie.Need-add-most
+add-most c = search needs
+
 sub-most : tie.Need-sub-most
 sub-most c = let start = c .before .args in omega (arith, skips-high (start .able) (start .cycle) (start .left) (c .if1 .left))
 
@@ -35,4 +38,4 @@ returns-3 c =
 pub skips-spec : {M : Type 1} → statement M
 skips-spec =
     tie.close
-    (tie.spec returns sub-most cast-if2 cast-result returns-2 sub-result cast-result-2 returns-3)
+    (tie.spec returns add-most sub-most cast-if2 cast-result returns-2 sub-result cast-result-2 returns-3)

@@ -1,5 +1,5 @@
 use mathlib.Core.Path.{_∙_}
-use Rattle.sequencer.specs.Chip.{host}
+use Rattle.memory.specs.Lent.{host}
 use Rattle.sequencer.proofs.Runs.{one-tick}
 use borrow.Author.Needs.{needs}
 use Rattle.sequencer.proofs.tick.Statement.{statement}

@@ -1,6 +1,6 @@
 use mathlib.Core.Path.{sym, _∙_}
 use borrow.Author.Tests.{not-true, not-false}
-use Rattle.sequencer.specs.Chip.{host}
+use Rattle.memory.specs.Lent.{host}
 use Rattle.sequencer.proofs.Runs.{no-ticks, lent-first, state-first}
 use borrow.Author.Needs.{needs}
 use Rattle.sequencer.proofs.ticks.Statement.{statement}

@@ -3,7 +3,7 @@ use native.Mathlib.Omega.{arith}
 use lib.ListN.{length}
 use borrow.Author.Needs.{needs}
 use Rattle.sheet.specs.declared.Run.{Run}
-use Rattle.sheet.specs.Sheet.{store}
+use Rattle.driver.specs.Driver.{store}
 use Rattle.sheet.specs.Fill.{ahead}
 use Rattle.sheet.proofs.Loop.{Going, at-first, some-more, at-last, less}
 use Rattle.sheet.proofs.fill.Statement.{statement}

@@ -2,7 +2,7 @@ use mathlib.Core.Path.{_≡_}
 use native.Mathlib.Omega.{arith}
 use lib.ListN.{length}
 use borrow.Author.Needs.{needs}
-use Rattle.sheet.specs.Sheet.{store}
+use Rattle.driver.specs.Driver.{store}
 use Rattle.sheet.specs.Fill.{ahead}
 use Rattle.sheet.proofs.Ends.{Prints, nothing-yet, one-block, all-ended, all-printed}
 use Rattle.sheet.proofs.print.Statement.{statement}

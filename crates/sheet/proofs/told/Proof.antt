@@ -1,6 +1,6 @@
 use native.Mathlib.Omega.{arith}
+use Rattle.sheet.specs.Sheet.{textBy}
 use Rattle.sheet.proofs.Glue.{nothing}
-use Rattle.sheet.specs.Sheet.{toldOf}
 use borrow.Author.Needs.{needs}
 use Rattle.sheet.proofs.told.Statement.{statement}
 use Rattle.sheet.proofs.told.Tie as tie
@@ -8,88 +8,51 @@ use Rattle.sheet.proofs.told.Tie as tie
 enum-told : tie.Need-enum-told
 enum-told c = search needs
 
+enum-known-event : tie.Need-enum-known-event
+enum-known-event c = search needs
+
+steps-requires : tie.Need-steps-requires
+steps-requires c κs = search needs
+
+enum-told-2 : tie.Need-enum-told-2
+enum-told-2 c = search needs
+
 numbers-requires : tie.Need-numbers-requires
 numbers-requires c κs = search needs
 
 line-requires : tie.Need-line-requires
 line-requires c κs = search needs
 
-enum-told-2 : tie.Need-enum-told-2
-enum-told-2 c = search needs
+enum-known-event-2 : tie.Need-enum-known-event-2
+enum-known-event-2 c = search needs
 
-enum-told-3 : tie.Need-enum-told-3
-enum-told-3 c = search needs
+refused-requires : tie.Need-refused-requires
+refused-requires c κs = search needs
 
-enum-told-4 : tie.Need-enum-told-4
-enum-told-4 c = search needs
-
-enum-told-5 : tie.Need-enum-told-5
-enum-told-5 c = search needs
-
-enum-told-6 : tie.Need-enum-told-6
-enum-told-6 c = search needs
-
-enum-told-7 : tie.Need-enum-told-7
-enum-told-7 c = search needs
-
-enum-told-8 : tie.Need-enum-told-8
-enum-told-8 c = search needs
+returns : tie.Need-returns
+unfolding textBy
+returns c = (omega arith, simp (c .enum-told .given .1) (nothing _ _))
 
 same-length : tie.Need-same-length
 same-length c = search needs
 
-returns : tie.Need-returns
-unfolding toldOf
-returns c = let w = c .before .before .line .ensures in (omega (arith, w .0), simp (c .before .before .before .before .before .enum-told .given .1) (rw (c .before .before .before .numbers .ensures) at (w .1)))
-
 returns-2 : tie.Need-returns-2
-unfolding toldOf
-returns-2 c = (omega arith, simp (c .enum-told2 .given .1) (nothing _ _))
+unfolding textBy
+returns-2 c = let w = c .before .before .steps .ensures in (omega (arith, w .0), simp (c .before .before .before .before .before .event .given .1) (w .1))
+
+same-length-2 : tie.Need-same-length-2
+same-length-2 c = search needs
 
 returns-3 : tie.Need-returns-3
-unfolding toldOf
-returns-3 c = (omega arith, simp (c .enum-told3 .given .1) (nothing _ _))
+unfolding textBy
+returns-3 c = let w = c .before .before .line .ensures in (omega (arith, w .0), simp (c .before .before .before .before .before .enum-told2 .given .1) (rw (c .before .before .before .numbers .ensures) at (w .1)))
+
+same-length-3 : tie.Need-same-length-3
+same-length-3 c = search needs
 
 returns-4 : tie.Need-returns-4
-unfolding toldOf
-returns-4 c = (omega arith, simp (c .enum-told4 .given .1) (nothing _ _))
-
-returns-5 : tie.Need-returns-5
-unfolding toldOf
-returns-5 c = (omega arith, simp (c .enum-told5 .given .1) (nothing _ _))
-
-returns-6 : tie.Need-returns-6
-unfolding toldOf
-returns-6 c = (omega arith, simp (c .enum-told6 .given .1) (nothing _ _))
-
-returns-7 : tie.Need-returns-7
-unfolding toldOf
-returns-7 c = (omega arith, simp (c .enum-told7 .given .1) (nothing _ _))
-
-returns-8 : tie.Need-returns-8
-unfolding toldOf
-returns-8 c = (omega arith, simp (c .enum-told8 .given .1) (nothing _ _))
+unfolding textBy
+returns-4 c = let w = c .before .before .refused .ensures in (omega (arith, w .0), simp (c .before .before .before .before .before .event2 .given .1) (w .1))
 
 pub told-spec : {M : Type 1} → statement M
-told-spec =
-    tie.close
-    (tie.spec
-    enum-told
-    numbers-requires
-    line-requires
-    enum-told-2
-    enum-told-3
-    enum-told-4
-    enum-told-5
-    enum-told-6
-    enum-told-7
-    enum-told-8
-    same-length
-    returns
-    returns-2
-    returns-3
-    returns-4
-    returns-5
-    returns-6
-    returns-7
-    returns-8)
+told-spec = tie.close (tie.spec enum-told enum-known-event steps-requires enum-told-2 numbers-requires line-requires enum-known-event-2 refused-requires returns same-length returns-2 same-length-2 returns-3 same-length-3 returns-4)

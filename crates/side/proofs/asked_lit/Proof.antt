@@ -1,13 +1,17 @@
+use mathlib.Core.Path.{sym, _∙_}
 use Rattle.schedule.proofs.Parts.{no-request}
 use Rattle.arbitration.proofs.Kept.{matrix-alone}
 use borrow.Author.Needs.{needs}
 use Rattle.side.proofs.asked_lit.Statement.{statement}
 use Rattle.side.proofs.asked_lit.Tie as tie
 
+early-requires : tie.Need-early-requires
+early-requires c κs = search needs
+
 returns : tie.Need-returns
 returns c =
-    let start = c .before in
-    matrix-alone (start .args .ba) (start .args .dma) (start .args .cycle) (no-request (start .args .cycle) (start .pre) (c .if1 .taken))
+    let start = c .before .before in
+    matrix-alone (start .args .ba) (start .args .dma) (start .args .cycle) (no-request (start .args .cycle) (start .pre) (sym (c .before .early .ensures) ∙ c .if1 .taken))
 
 request-requires : tie.Need-request-requires
 request-requires c κs = search needs
@@ -16,4 +20,4 @@ returns-2 : tie.Need-returns-2
 returns-2 c = search needs
 
 pub asked-lit-spec : {M : Type 1} → statement M
-asked-lit-spec = tie.close (tie.spec returns request-requires returns-2)
+asked-lit-spec = tie.close (tie.spec early-requires returns request-requires returns-2)

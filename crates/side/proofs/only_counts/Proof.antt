@@ -1,4 +1,4 @@
-use Rattle.side.specs.Leap.{onlyCounts}
+use Rattle.side.specs.Machinery.Leap.{onlyCounts}
 use borrow.Author.Needs.{needs}
 use Rattle.side.proofs.only_counts.Statement.{statement}
 use Rattle.side.proofs.only_counts.Tie as tie

@@ -1,6 +1,4 @@
-use mathlib.Core.Path.{refl}
 use Rattle.schedule.proofs.Laws.{slot-small}
-use Rattle.side.specs.Turn.{controls}
 use Rattle.side.proofs.Glue.{turn-glue}
 use Rattle.side.proofs.Parts.{small}
 use borrow.Author.Needs.{needs}
@@ -13,20 +11,17 @@ clocked-requires c κs = search needs
 next-cycle-requires : tie.Need-next-cycle-requires
 next-cycle-requires c κs = search needs
 
-line-turn-requires : tie.Need-line-turn-requires
-line-turn-requires c κs = rw (c .next-cycle .ensures) (small _)
-
-bad-line-requires : tie.Need-bad-line-requires
-bad-line-requires c κs = search needs
+turn-requires : tie.Need-turn-requires
+turn-requires c κs = rw (c .next-cycle .ensures) (small _)
 
 border-dark-requires : tie.Need-border-dark-requires
-border-dark-requires c κs = (rw (c .before .before .before .before .before .next-cycle .ensures) (small _), rw (c .before .before .before .before .before .next-cycle .ensures) (c .before .before .before .before .before .before .before .before .before .before .before .before .before .before .pre .1))
+border-dark-requires c κs = (rw (c .before .before .before .next-cycle .ensures) (small _), rw (c .before .before .before .next-cycle .ensures) (c .before .before .before .before .before .before .before .before .before .before .before .before .before .pre .1))
 
 sprites-dark-requires : tie.Need-sprites-dark-requires
-sprites-dark-requires c κs = (rw (c .before .before .before .before .before .before .next-cycle .ensures) (small _), rw (c .before .before .before .before .before .before .next-cycle .ensures) (c .before .before .before .before .before .before .before .before .before .before .before .before .before .before .before .pre .1))
+sprites-dark-requires c κs = (rw (c .before .before .before .before .next-cycle .ensures) (small _), rw (c .before .before .before .before .next-cycle .ensures) (c .before .before .before .before .before .before .before .before .before .before .before .before .before .before .pre .1))
 
-turn-requires : tie.Need-turn-requires
-turn-requires c κs = search needs
+turn-requires-2 : tie.Need-turn-requires-2
+turn-requires-2 c κs = search needs
 
 request-requires : tie.Need-request-requires
 request-requires c κs = search needs
@@ -58,8 +53,8 @@ pointer-time-requires c κs = search needs
 data-time-requires : tie.Need-data-time-requires
 data-time-requires c κs = search needs
 
-rows-dark-requires : tie.Need-rows-dark-requires
-rows-dark-requires c κs = rw (c .before .before .before .before .before .before .before .before .before .before .before .before .before .before .before .before .before .before .next-cycle .ensures) (small _)
+turn-dark-requires : tie.Need-turn-dark-requires
+turn-dark-requires c κs = rw (c .before .before .before .before .before .before .before .before .before .before .before .before .before .before .before .before .next-cycle .ensures) (small _)
 
 next-pending-requires : tie.Need-next-pending-requires
 next-pending-requires c κs = search needs
@@ -67,29 +62,25 @@ next-pending-requires c κs = search needs
 returns : tie.Need-returns
 returns c =
     let start = c .before .before .before .before .before .before .before .before .before .before .before .before .before .before .before .before .before .before .before .before .before .before .before .before .before .before .before .before .before .before .before .before .before .before .before .args in
-    let g = controls (start .den) (start .rsel) (start .yscroll) (start .csel) (start .compare) (start .my) (start .enable) (start .yexp) in
-    let beam = c .before .before .before .before .before .before .before .before .before .before .before .before .before .before .before .before .before .before .turn .ensures in
-    rw beam
-    (turn-glue g (start .side)
-    (c .before .before .before .before .before .before .before .before .before .before .before .before .before .before .before .before .before .before .before .before .before .before .before .before .before .before .before .clocked .ensures)
-    (c .before .before .before .before .before .before .before .before .before .before .before .before .before .before .before .before .before .before .before .before .before .before .before .before .before .before .next-cycle .ensures)
-    (c .before .before .before .before .before .before .before .before .before .before .before .before .before .before .before .before .before .before .before .before .before .before .before .before .before .line-turn .ensures)
-    (c .before .before .before .before .before .before .before .before .before .before .before .before .before .before .before .before .before .before .before .before .before .bad-line .ensures)
-    (c .before .before .before .before .before .before .before .before .before .before .before .before .before .before .before .before .before .before .before .before .border-dark .ensures)
-    (c .before .before .before .before .before .before .before .before .before .before .before .before .before .before .before .before .before .before .before .sprites-dark .ensures)
-    refl
-    (rw beam at (c .before .before .before .before .before .before .before .before .before .before .before .before .before .before .before .before .before .request .ensures))
-    (c .before .before .before .before .before .before .before .before .before .before .before .before .before .before .before .before .arbitrate .ensures)
-    (c .before .before .before .before .before .before .before .before .before .before .before .before .before .before .before .slot-sprite .ensures)
-    (c .before .before .before .before .before .before .before .before .before .before .before .before .before .before .at .ensures)
-    (c .before .before .before .before .before .before .before .before .before .before .before .before .before .has-bit .ensures)
-    (c .before .before .before .before .before .before .before .before .before .before .before .before .sprites-slot .ensures)
-    (c .before .before .before .before .before .before .before .before .before .before .before .slot-after-bus .ensures)
-    (c .before .before .before .before .before .before .before .before .before .before .pick-bool .ensures)
-    (c .before .before .before .before .before .before .before .before .before .pointer-time .ensures)
-    (c .before .before .before .before .before .before .before .before .data-time .ensures)
-    (rw beam at (c .before .before .before .before .before .before .before .rows-dark .ensures))
-    (c .before .before .before .next-pending .ensures))
+    turn-glue (start .g) (start .side)
+    (c .before .before .before .before .before .before .before .before .before .before .before .before .before .before .before .before .before .before .before .before .before .before .before .before .before .before .clocked .ensures)
+    (c .before .before .before .before .before .before .before .before .before .before .before .before .before .before .before .before .before .before .before .before .before .before .before .before .before .next-cycle .ensures)
+    (c .before .before .before .before .before .before .before .before .before .before .before .before .before .before .before .before .before .before .before .before .before .before .before .before .turn .ensures)
+    (c .before .before .before .before .before .before .before .before .before .before .before .before .before .before .before .before .before .before .before .before .before .border-dark .ensures)
+    (c .before .before .before .before .before .before .before .before .before .before .before .before .before .before .before .before .before .before .before .before .sprites-dark .ensures)
+    (c .before .before .before .before .before .before .before .before .before .before .before .before .before .before .before .before .before .before .before .turn2 .ensures)
+    (c .before .before .before .before .before .before .before .before .before .before .before .before .before .before .before .before .before .before .request .ensures)
+    (c .before .before .before .before .before .before .before .before .before .before .before .before .before .before .before .before .before .arbitrate .ensures)
+    (c .before .before .before .before .before .before .before .before .before .before .before .before .before .before .before .before .slot-sprite .ensures)
+    (c .before .before .before .before .before .before .before .before .before .before .before .before .before .before .before .at .ensures)
+    (c .before .before .before .before .before .before .before .before .before .before .before .before .before .before .has-bit .ensures)
+    (c .before .before .before .before .before .before .before .before .before .before .before .before .before .sprites-slot .ensures)
+    (c .before .before .before .before .before .before .before .before .before .before .before .before .slot-after-bus .ensures)
+    (c .before .before .before .before .before .before .before .before .before .before .before .pick-bool .ensures)
+    (c .before .before .before .before .before .before .before .before .before .before .pointer-time .ensures)
+    (c .before .before .before .before .before .before .before .before .before .data-time .ensures)
+    (c .before .before .before .before .before .before .before .before .turn-dark .ensures)
+    (c .before .before .before .before .next-pending .ensures)
 
 pub turn-dark-spec : {M : Type 1} → statement M
 turn-dark-spec =
@@ -97,11 +88,10 @@ turn-dark-spec =
     (tie.spec
     clocked-requires
     next-cycle-requires
-    line-turn-requires
-    bad-line-requires
+    turn-requires
     border-dark-requires
     sprites-dark-requires
-    turn-requires
+    turn-requires-2
     request-requires
     arbitrate-requires
     slot-sprite-requires
@@ -112,6 +102,6 @@ turn-dark-spec =
     pick-bool-requires
     pointer-time-requires
     data-time-requires
-    rows-dark-requires
+    turn-dark-requires
     next-pending-requires
     returns)

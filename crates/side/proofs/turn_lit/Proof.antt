@@ -1,6 +1,4 @@
-use mathlib.Core.Path.{refl}
 use Rattle.schedule.proofs.Parts.{lit}
-use Rattle.side.specs.Turn.{controls}
 use Rattle.side.proofs.Parts.{lit-glue}
 use borrow.Author.Needs.{needs}
 use Rattle.side.proofs.turn_lit.Statement.{statement}
@@ -12,20 +10,17 @@ clocked-requires c κs = search needs
 next-cycle-requires : tie.Need-next-cycle-requires
 next-cycle-requires c κs = search needs
 
-bad-line-requires : tie.Need-bad-line-requires
-bad-line-requires c κs = search needs
-
 border-lit-requires : tie.Need-border-lit-requires
-border-lit-requires c κs = rw (c .before .next-cycle .ensures) (c .before .before .before .before .before .before .before .before .before .before .pre .1)
+border-lit-requires c κs = rw (c .next-cycle .ensures) (c .before .before .before .before .before .before .before .before .before .before .pre .1)
 
 sprites-lit-requires : tie.Need-sprites-lit-requires
-sprites-lit-requires c κs = rw (c .before .before .next-cycle .ensures) (c .before .before .before .before .before .before .before .before .before .before .before .pre .1)
+sprites-lit-requires c κs = rw (c .before .next-cycle .ensures) (c .before .before .before .before .before .before .before .before .before .before .before .pre .1)
 
 turn-requires : tie.Need-turn-requires
 turn-requires c κs = search needs
 
 asked-lit-requires : tie.Need-asked-lit-requires
-asked-lit-requires c κs = rw (c .before .before .before .before .next-cycle .ensures) (c .before .before .before .before .before .before .before .before .before .before .before .before .before .pre .1)
+asked-lit-requires c κs = rw (c .before .before .before .next-cycle .ensures) (c .before .before .before .before .before .before .before .before .before .before .before .before .before .pre .1)
 
 arbitrate-requires : tie.Need-arbitrate-requires
 arbitrate-requires c κs = search needs
@@ -36,32 +31,28 @@ at-requires c κs = search needs
 has-bit-requires : tie.Need-has-bit-requires
 has-bit-requires c κs = search needs
 
-rows-lit-requires : tie.Need-rows-lit-requires
-rows-lit-requires c κs = rw (c .before .before .before .before .before .before .before .before .next-cycle .ensures) (c .before .before .before .before .before .before .before .before .before .before .before .before .before .before .before .before .before .pre .1)
+turn-lit-requires : tie.Need-turn-lit-requires
+turn-lit-requires c κs = rw (c .before .before .before .before .before .before .before .next-cycle .ensures) (c .before .before .before .before .before .before .before .before .before .before .before .before .before .before .before .before .before .pre .1)
 
 next-pending-requires : tie.Need-next-pending-requires
 next-pending-requires c κs = search needs
 
 returns : tie.Need-returns
 returns c =
-    let start = c .before .before .before .before .before .before .before .before .before .before .before .before .before .before .before .before .before .before .before .before .before .before .before .before .before in
-    let g = controls (start .args .den) (start .args .rsel) (start .args .yscroll) (start .args .csel) (start .args .compare) (start .args .my) (start .args .enable) (start .args .yexp) in
-    let beam = c .before .before .before .before .before .before .before .before .before .before .before .before .turn .ensures in
-    rw beam
-    (lit-glue g (start .args .side)
+    let start = c .before .before .before .before .before .before .before .before .before .before .before .before .before .before .before .before .before .before .before .before .before .before .before .before .before .before in
+    lit-glue (start .args .g) (start .args .side)
     (lit _ (rw (c .before .before .before .before .before .before .before .before .before .before .before .before .before .before .before .before .next-cycle .ensures) (start .pre .1)))
     (c .before .before .before .before .before .before .before .before .before .before .before .before .before .before .before .before .before .clocked .ensures)
     (c .before .before .before .before .before .before .before .before .before .before .before .before .before .before .before .before .next-cycle .ensures)
-    (c .before .before .before .before .before .before .before .before .before .before .before .before .before .before .before .bad-line .ensures)
-    (c .before .before .before .before .before .before .before .before .before .before .before .before .before .before .border-lit .ensures)
-    (c .before .before .before .before .before .before .before .before .before .before .before .before .before .sprites-lit .ensures)
-    refl
-    (rw beam at (c .before .before .before .before .before .before .before .before .before .before .before .asked-lit .ensures))
-    (c .before .before .before .before .before .before .before .before .before .before .arbitrate .ensures)
-    (c .before .before .before .before .before .before .before .before .before .at .ensures)
-    (c .before .before .before .before .before .before .before .before .has-bit .ensures)
-    (rw beam at (c .before .before .before .before .before .before .before .rows-lit .ensures))
-    (c .before .before .before .next-pending .ensures))
+    (c .before .before .before .before .before .before .before .before .before .before .before .before .before .before .before .border-lit .ensures)
+    (c .before .before .before .before .before .before .before .before .before .before .before .before .before .before .sprites-lit .ensures)
+    (c .before .before .before .before .before .before .before .before .before .before .before .before .before .turn .ensures)
+    (c .before .before .before .before .before .before .before .before .before .before .before .before .asked-lit .ensures)
+    (c .before .before .before .before .before .before .before .before .before .before .before .arbitrate .ensures)
+    (c .before .before .before .before .before .before .before .before .before .before .at .ensures)
+    (c .before .before .before .before .before .before .before .before .before .has-bit .ensures)
+    (c .before .before .before .before .before .before .before .before .turn-lit .ensures)
+    (c .before .before .before .before .next-pending .ensures)
 
 pub turn-lit-spec : {M : Type 1} → statement M
 turn-lit-spec =
@@ -69,7 +60,6 @@ turn-lit-spec =
     (tie.spec
     clocked-requires
     next-cycle-requires
-    bad-line-requires
     border-lit-requires
     sprites-lit-requires
     turn-requires
@@ -77,6 +67,6 @@ turn-lit-spec =
     arbitrate-requires
     at-requires
     has-bit-requires
-    rows-lit-requires
+    turn-lit-requires
     next-pending-requires
     returns)

@@ -1,0 +1,110 @@
+-- What each call makes of the timing side and the timing registers: no picture value reaches them. Assumes nothing.
+use Prim.Native.Nat.{ℕ, _%_}
+use mathlib.Core.Path.{_≡_, refl, ap, subst, _∙_}
+use mathlib.Core.Bool.{Bool, true, false}
+use lib.Dec.{ltb}
+use lib.IntN.{ℤ}
+use Rattle.registers.specs.declared.Irq.{Irq}
+use Rattle.registers.specs.Control.{DEN, RSEL, YSCROLL, CSEL, timed}
+use Rattle.registers.specs.Registers.{written}
+use Rattle.registers.specs.Irq.{irqWritten}
+use Rattle.registers.proofs.Timing.{takes, shows, written-my, written-enable, written-compare, written-ctrl1, written-ctrl2, written-yexp, irq-written, read-alike, SameFile, by-one, as-one}
+use Rattle.border.specs.Border.{compared}
+use Rattle.sprites.specs.Sprites.{expandWritten}
+use Rattle.rows.specs.declared.Pending.{Pending}
+use Rattle.rows.specs.declared.Pending.the-variants.{Nothing, At}
+use Rattle.side.specs.declared.Side.{Side}
+use Rattle.side.specs.Set.{irq≔, border≔, sprites≔, rows≔, pending≔}
+use Rattle.rows.specs.Set.{display≔, transition≔, access≔}
+use Rattle.chip.specs.declared.Chip.{Chip}
+use Rattle.chip.specs.Accept.{accepted, clockFine}
+use Rattle.chip.proofs.Level.{Level, LevelAnswers, picked}
+use Rattle.calls.specs.Calls.{registerRead, registerWritten, expandAt, comparesBy, controlsPlaced, displayPlaced, lateAt, lateTaken, phi1, dmaCount}
+
+module _ {a b : Chip} (e : Level a b) where
+  file : SameFile (a .regs) (b .regs)
+  file = by-one (a .regs) (b .regs) (e .registers)
+
+  -- two writes of one address that bring the same where a timing register takes it
+  pub write-level : (addr v w : ℕ) → (takes (addr % 64) ≡ true → v ≡ w) → Level (registerWritten a addr v) (registerWritten b addr w)
+  unfolding registerWritten
+  write-level addr v w same =
+      record {
+        side =
+            ap (λ (s : Side). irq≔ (irqWritten (s .irq) addr v) s) (e .side)
+            ∙ ap (λ (i : Irq). irq≔ i (b .side)) (irq-written (b .side .irq) addr v w same);
+        registers =
+            as-one (written (a .regs) addr v) (written (b .regs) addr w)
+            (record {
+              den = simp (written-ctrl1, file .den);
+              rsel = simp (written-ctrl1, file .rsel);
+              yscroll = simp (written-ctrl1, file .yscroll);
+              csel = simp (written-ctrl2, file .csel);
+              compare = written-compare (a .regs) (b .regs) addr v w same (file .compare);
+              my = written-my (a .regs) (b .regs) addr v w same (file .my);
+              enable = written-enable (a .regs) (b .regs) addr v w same (file .enable);
+              yexp = simp (written-yexp, file .yexp);
+            });
+      }
+
+  pub expand-level : (v : ℕ) → Level (expandAt a v) (expandAt b v)
+  unfolding expandAt timed
+  expand-level v =
+      record {
+        side =
+            ap (λ (s : Side). sprites≔ (expandWritten v (s .beam .cycle) (a .regs .yexp) (s .sprites)) s) (e .side)
+            ∙ ap (λ (y : ℕ). sprites≔ (expandWritten v (b .side .beam .cycle) y (b .side .sprites)) (b .side)) (file .yexp);
+        registers = simp (file .den, file .rsel, file .yscroll, file .csel, file .compare, file .my, file .enable);
+      }
+
+  pub compares-level : Level (comparesBy a) (comparesBy b)
+  unfolding comparesBy
+  compares-level =
+      record {
+        side =
+            ap (λ (s : Side). border≔ (compared (s .border) (RSEL (a .regs .ctrl1))) s) (e .side)
+            ∙ ap (λ (r : Bool). border≔ (compared (b .side .border) r) (b .side)) (file .rsel);
+        registers = e .registers;
+      }
+
+  pub controls-level : (c d x y line : ℕ) → DEN c ≡ DEN d → RSEL c ≡ RSEL d → YSCROLL c ≡ YSCROLL d → CSEL x ≡ CSEL y
+      → LevelAnswers (controlsPlaced a c x line) (controlsPlaced b d y line)
+  unfolding controlsPlaced timed
+  controls-level c d x y line den rsel yscroll csel =
+      picked LevelAnswers (ltb 511 line) (record { refused = refl; chip = e })
+      (record { refused = refl; chip = record { side = e .side; registers = simp (den, rsel, yscroll, csel, file .my, file .enable, file .yexp) } })
+
+  pub display-level : (display transition access m n : Bool) (s t : ℤ) → clockFine s ≡ true → clockFine t ≡ true
+      → LevelAnswers (displayPlaced a display transition access m s) (displayPlaced b display transition access n t)
+  unfolding displayPlaced
+  display-level display transition access m n s t f g =
+      rw (f, g)
+      (record { refused = refl; chip = record { side = ap (λ (s : Side). rows≔ (display≔ display (transition≔ transition (access≔ access (s .rows)))) s) (e .side); registers = e .registers } })
+
+  late-at : (v w : ℕ) (p : Pending) → Level (lateAt a v p) (lateAt b w p)
+  late-at v w Nothing = e
+  late-at v w (At p) = record { side = ap (pending≔ Nothing) (e .side); registers = e .registers }
+
+  pub late-level : (v w : ℕ) → accepted a ≡ true → accepted b ≡ true → LevelAnswers (lateTaken a v) (lateTaken b w)
+  unfolding lateTaken
+  late-level v w f g =
+      rw (f, g)
+      (record {
+        refused = refl;
+        chip = subst (λ (p : Pending). Level (lateAt a v (a .side .pending)) (lateAt b w p)) (ap (λ (s : Side). s .pending) (e .side)) (late-at v w (a .side .pending));
+      })
+
+  -- the questions
+  pub phi1-same : phi1 a ≡ phi1 b
+  unfolding phi1
+  phi1-same = simp (e .side)
+
+  pub count-same : dmaCount a ≡ dmaCount b
+  unfolding dmaCount
+  count-same = simp (e .side)
+
+  pub read-same : (addr penx peny : ℕ) → shows (addr % 64) ≡ false → registerRead a addr penx peny ≡ registerRead b addr penx peny
+  unfolding registerRead
+  read-same addr penx peny other =
+      simp (e .side)
+      (read-alike (a .regs) (b .regs) (b .side .irq) (b .side .beam .raster) addr penx peny other (file .my) (file .enable) (file .yexp))

@@ -1,0 +1,76 @@
+-- Every other public call on a chip.
+use Prim.Native.Nat.{ℕ}
+use mathlib.Core.Bool.{Bool, cond}
+use lib.Dec.{ltb}
+use lib.IntN.{ℤ}
+use lib.ListN.{set}
+use Rattle.registers.specs.Control.{RSEL}
+use Rattle.registers.specs.Registers.{written, controlled, expanded}
+use Rattle.registers.specs.Read.{readOf}
+use Rattle.registers.specs.Irq.{irqWritten}
+use Rattle.schedule.specs.Requests.{spritesIn}
+use Rattle.border.specs.Border.{compared}
+use Rattle.sprites.specs.Sprites.{expandWritten}
+use Rattle.arbitration.specs.Bus.{phi1High}
+use Rattle.rows.specs.declared.Pending.{Pending}
+use Rattle.rows.specs.declared.Pending.the-variants.{Nothing, At}
+use Rattle.access.specs.Matrix.{lateWord}
+use Rattle.side.specs.Set.{irq≔, border≔, sprites≔, rows≔, pending≔}
+use Rattle.rows.specs.Set.{display≔, transition≔, access≔}
+use Rattle.picture.specs.Set.{changing≔, forced≔}
+use Rattle.chip.specs.declared.Chip.{Chip}
+use Rattle.chip.specs.declared.Answer.{Answer}
+use Rattle.chip.specs.Set.{regs≔, side≔, picture≔, matrix≔, pen≔}
+use Rattle.chip.specs.Accept.{accepted, clockFine}
+use Rattle.chip.specs.Chip.{answer}
+
+-- Bauer 3.2: the raster that a read shows is the beam's
+unfoldable pub registerRead : Chip → ℕ → ℕ → ℕ → ℕ
+registerRead c addr penx peny = readOf (c .regs) (c .side .irq) (c .side .beam .raster) addr penx peny
+
+-- Bauer 3.2: the register file and the interrupt latches each take their own
+unfoldable pub registerWritten : Chip → ℕ → ℕ → Chip
+registerWritten c addr v =
+    regs≔ (written (c .regs) addr v) (side≔ (irq≔ (irqWritten (c .side .irq) addr v) (c .side)) c)
+
+-- DECISIONS 6: at the state's own cycle
+unfoldable pub expandAt : Chip → ℕ → Chip
+expandAt c v =
+    regs≔ (expanded (c .regs) v)
+    (side≔ (sprites≔ (expandWritten v (c .side .beam .cycle) (c .regs .yexp) (c .side .sprites)) (c .side)) c)
+
+-- 01, Run file kind 5: by ctrl1's RSEL
+unfoldable pub comparesBy : Chip → Chip
+comparesBy c = side≔ (border≔ (compared (c .side .border) (RSEL (c .regs .ctrl1))) (c .side)) c
+
+-- 01, Placing calls: ctrl1, ctrl2, compare line only; 5 where the line is above 511
+unfoldable pub controlsPlaced : Chip → ℕ → ℕ → ℕ → Answer
+controlsPlaced c ctrl1 ctrl2 compare =
+    cond (ltb 511 compare) (answer 5 c) (answer 0 (regs≔ (controlled (c .regs) ctrl1 ctrl2 compare) c))
+
+-- 01, Placing calls: display state, transition, character access, mode-changing flag, forced clock only; 6 where that is out of range
+unfoldable pub displayPlaced : Chip → Bool → Bool → Bool → Bool → ℤ → Answer
+displayPlaced c display transition access changing forced =
+    cond (clockFine forced)
+    (answer 0
+    (side≔ (rows≔ (display≔ display (transition≔ transition (access≔ access (c .side .rows)))) (c .side))
+    (picture≔ (pen≔ (changing≔ changing (forced≔ forced (c .picture .pen))) (c .picture)) c)))
+    (answer 6 c)
+
+-- 01, Late byte: it fills a place only if one is pending, and the place is pending no more
+abbrev pub lateAt : Chip → ℕ → Pending → Chip
+lateAt c byte Nothing = c
+lateAt c byte (At p) =
+    side≔ (pending≔ Nothing (c .side)) (picture≔ (matrix≔ (set (c .picture .matrix) p (lateWord byte)) (c .picture)) c)
+
+-- 01, Numbers: 3 where the state is not accepted
+unfoldable pub lateTaken : Chip → ℕ → Answer
+lateTaken c byte = cond (accepted c) (answer 0 (lateAt c byte (c .side .pending))) (answer 3 c)
+
+-- 01, Arbitration
+unfoldable pub phi1 : Chip → Bool
+phi1 c = phi1High (c .side .beam .ba) (c .side .sprites .dma) (c .side .sprites .prev) (c .side .beam .cycle)
+
+-- 01: the number of sprites with DMA on
+unfoldable pub dmaCount : Chip → ℕ
+dmaCount c = spritesIn (c .side .sprites .dma)

@@ -1,0 +1,201 @@
+// Every public call on a chip but the tick.
+// A call asks nothing of its caller: what it does not take it refuses by number, with the state unchanged.
+ghost use mathlib.Core.Path.{_≡_};
+ghost use mathlib.Core.Bool.{Bool};
+ghost use Prim.Native.Nat.{_<_};
+ghost use lib.IntN.{ℤ};
+ghost use Rattle.calls.specs.Calls.{registerRead, registerWritten, expandAt, comparesBy, controlsPlaced, displayPlaced, lateAt, lateTaken, phi1, dmaCount};
+use chip::Answer;
+use chip::Chip;
+use picture::Pen;
+use rows::Pending;
+use side::Side;
+
+pub fn read_register(chip: Chip, addr: u16, penx: u8, peny: u8) -> u8
+    ensures { λ r. ⌜ r ≡ registerRead chip addr penx peny ⌝ }
+{
+    let regs = chip.regs;
+    let side = chip.side;
+    let irq = side.irq;
+    let beam = side.beam;
+    regs.read(irq, beam.raster, addr, penx, peny)
+}
+
+pub fn write_register(mut chip: Chip, addr: u16, value: u8) -> Chip
+    ensures { λ r. ⌜ r ≡ registerWritten chip addr value ⌝ }
+{
+    let regs = chip.regs;
+    let mut side = chip.side;
+    let irq = side.irq;
+    let stored = regs.write(addr, value);
+    let latched = irq.write(addr, value);
+    side.irq = latched;
+    chip.regs = stored;
+    chip.side = side;
+    chip
+}
+
+// The Y-expand register, written in the state's own cycle.
+pub fn write_y_expand(mut chip: Chip, value: u8) -> Chip
+    ensures { λ r. ⌜ r ≡ expandAt chip value ⌝ }
+{
+    let regs = chip.regs;
+    let mut side = chip.side;
+    let beam = side.beam;
+    let sprites = side.sprites;
+    let turned = sprites.write_y_expand(value, beam.cycle, regs.yexp);
+    let stored = regs.expand(value);
+    side.sprites = turned;
+    chip.regs = stored;
+    chip.side = side;
+    chip
+}
+
+// The border compares that ctrl1's RSEL picks.
+pub fn border_compares(mut chip: Chip) -> Chip
+    ensures { λ r. ⌜ r ≡ comparesBy chip ⌝ }
+{
+    let regs = chip.regs;
+    let mut side = chip.side;
+    let border = side.border;
+    let rsel = registers::rsel(regs.ctrl1);
+    let picked = border.compares(rsel);
+    side.border = picked;
+    chip.side = side;
+    chip
+}
+
+pub fn place_controls(mut chip: Chip, ctrl1: u8, ctrl2: u8, compare: u16) -> Answer
+    ensures { λ r. ⌜ r ≡ controlsPlaced chip ctrl1 ctrl2 compare ⌝ }
+{
+    if 511 < compare {
+        return Answer {
+            refused: 5,
+            chip: chip,
+        };
+    }
+    let regs = chip.regs;
+    let stored = regs.controls(ctrl1, ctrl2, compare);
+    chip.regs = stored;
+    Answer {
+        refused: 0,
+        chip: chip,
+    }
+}
+
+pub fn place_display(
+    mut chip: Chip,
+    display: bool,
+    transition: bool,
+    access: bool,
+    changing: bool,
+    forced: i64,
+) -> Answer
+    ensures { λ r. ⌜ r ≡ displayPlaced chip display transition access changing forced ⌝ }
+{
+    let fine = chip::clock_fine(forced);
+    if !fine {
+        return Answer {
+            refused: 6,
+            chip: chip,
+        };
+    }
+    let mut side = chip.side;
+    let mut picture = chip.picture;
+    let mut rows = side.rows;
+    let pen = picture.pen;
+    rows.display = display;
+    rows.transition = transition;
+    rows.access = access;
+    let placed = Pen {
+        ch: pen.ch,
+        carry: pen.carry,
+        gfx: pen.gfx,
+        mode: pen.mode,
+        old: pen.old,
+        changing: changing,
+        forced: forced,
+    };
+    side.rows = rows;
+    picture.pen = placed;
+    chip.side = side;
+    chip.picture = picture;
+    Answer {
+        refused: 0,
+        chip: chip,
+    }
+}
+
+fn fill_late(mut chip: Chip, place: u8, byte: u8) -> Chip
+    requires { ⌜ place < 40 ⌝ }
+    ensures { λ r. ⌜ r ≡ lateAt chip byte (Pending.At place) ⌝ }
+{
+    let side0 = chip.side;
+    let mut picture = chip.picture;
+    let at = place as usize;
+    picture.matrix[at] = access::late_word(byte);
+    let irq = side0.irq;
+    let beam = side0.beam;
+    let frame = side0.frame;
+    let border = side0.border;
+    let sprites = side0.sprites;
+    let bus = side0.bus;
+    let rows = side0.rows;
+    let side = Side {
+        irq: irq,
+        beam: beam,
+        frame: frame,
+        border: border,
+        sprites: sprites,
+        bus: bus,
+        rows: rows,
+        pending: Pending::Nothing,
+        changed: side0.changed,
+    };
+    chip.side = side;
+    chip.picture = picture;
+    chip
+}
+
+// The CPU's byte for a pending place; nothing pending returns the state at once.
+pub fn late_byte(chip: Chip, byte: u8) -> Answer
+    ensures { λ r. ⌜ r ≡ lateTaken chip byte ⌝ }
+{
+    let fine = chip::is_accepted(chip);
+    if !fine {
+        return Answer {
+            refused: 3,
+            chip: chip,
+        };
+    }
+    let side = chip.side;
+    let pending = side.pending;
+    match pending {
+        Pending::Nothing => Answer {
+            refused: 0,
+            chip: chip,
+        },
+        Pending::At(place) => Answer {
+            refused: 0,
+            chip: fill_late(chip, place, byte),
+        },
+    }
+}
+
+pub fn ba_high_at_phi1(chip: Chip) -> bool
+    ensures { λ r. ⌜ r ≡ phi1 chip ⌝ }
+{
+    let side = chip.side;
+    let beam = side.beam;
+    let sprites = side.sprites;
+    arbitration::ba_high_at_phi1(beam.ba, sprites.dma, sprites.prev, beam.cycle)
+}
+
+// How many sprites have DMA on.
+pub fn sprite_count(chip: Chip) -> u32
+    ensures { λ r. ⌜ r ≡ dmaCount chip ⌝ }
+{
+    let side = chip.side;
+    let sprites = side.sprites;
+    schedule::sprites_in(sprites.dma)
+}

@@ -1,0 +1,5 @@
+pub mod Accepted
+pub mod Parts
+pub mod Fine
+pub mod Level
+pub mod Only

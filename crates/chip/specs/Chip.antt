@@ -1,0 +1,27 @@
+-- The whole chip: the register file, the timing side and the picture side.
+use Prim.Native.Nat.{ℕ}
+use Rattle.laws.specs.Lists.{zeros}
+use Rattle.registers.specs.declared.Registers.{Registers}
+use Rattle.registers.specs.Registers as File
+use Rattle.side.specs.declared.Side.{Side}
+use Rattle.side.specs.Turn.{freshSide}
+use Rattle.picture.specs.Pen.{freshPen}
+use Rattle.chip.specs.declared.Picture.{Picture}
+use Rattle.chip.specs.declared.Chip.{Chip}
+use Rattle.chip.specs.declared.Answer.{Answer}
+
+abbrev pub chip : Registers → Side → Picture → Chip
+chip regs side picture = record { regs = regs; side = side; picture = picture }
+
+-- what a call answers: the number of its refusal, 0 for none, and the chip
+abbrev pub answer : ℕ → Chip → Answer
+answer n c = record { refused = n; chip = c }
+
+-- 01, power-up: the parts' own values
+unfoldable pub powered : Chip
+powered =
+    record {
+      regs = File.fresh;
+      side = freshSide;
+      picture = record { pen = freshPen; matrix = zeros 40; pointers = zeros 8; bytes = zeros 24; words = zeros 8 };
+    }

@@ -1,0 +1,3 @@
+pub mod Chip
+pub mod Accept
+pub mod Set

@@ -1,0 +1,23 @@
+use mathlib.Core.Path.{sym, _∙_}
+use Rattle.schedule.proofs.Parts.{later}
+use Rattle.raster.proofs.Laws.{swept-later}
+use borrow.Author.Needs.{needs}
+use Rattle.raster.proofs.turn.Statement.{statement}
+use Rattle.raster.proofs.turn.Tie as tie
+
+later-requires : tie.Need-later-requires
+later-requires c κs = search needs
+
+returns : tie.Need-returns
+returns c =
+    let start = c .before .before in
+    swept-later (start .args .frame) (start .args .irq) (start .args .cycle) (start .args .raster) (start .args .compare) (later (start .args .cycle) (start .pre) (sym (c .before .later .ensures) ∙ c .if1 .taken))
+
+sweep-requires : tie.Need-sweep-requires
+sweep-requires c κs = search needs
+
+returns-2 : tie.Need-returns-2
+returns-2 c = search needs
+
+pub turn-spec : {M : Type 1} → statement M
+turn-spec = tie.close (tie.spec later-requires returns sweep-requires returns-2)

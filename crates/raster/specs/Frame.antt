@@ -1,0 +1,56 @@
+-- The beginning of a line and the end of a frame (01, tick 3 and 4).
+use Prim.Native.Nat.{ℕ}
+use mathlib.Core.Bool.{Bool, false, not, _&&_, _||_, cond}
+use lib.Dec.{eqb}
+use Rattle.laws.specs.Pick.{pick}
+use Rattle.registers.specs.declared.Irq.{Irq}
+use Rattle.registers.specs.Irq.{triggered}
+use Rattle.schedule.specs.Diagram.{happens, lineBegins, frameEnds}
+use Rattle.timing.specs.Beam.{nextLine, atLastLine}
+use Rattle.raster.specs.declared.Frame.{Frame}
+use Rattle.raster.specs.declared.Swept.{Swept}
+use Rattle.raster.specs.Set.{ending≔, matched≔}
+
+-- 01, power-up: no flag is set
+unfoldable pub fresh : Frame
+fresh = record { ending = false; matched = false }
+
+-- 01, tick 3: raster +1, but the last line stays
+unfoldable pub rasterBegun : Bool → ℕ → ℕ
+rasterBegun begins raster = cond begins (nextLine raster) raster
+
+-- 01, tick 3; departs, DIFFERENCES 26: an equal line raises the raster interrupt once while matched
+unfoldable pub matchRaises : Bool → Bool → Bool
+matchRaises matched before = matched && not before
+
+-- Bauer 3.12: the raster interrupt is source 1
+unfoldable pub raised : Irq → Bool → Irq
+raised irq raises = cond raises (triggered irq 1) irq
+
+-- 01, tick 3: the last line sets the frame flag and clears the match; any other matches where it equals the compare line
+unfoldable pub frameBegun : Frame → Bool → Bool → ℕ → ℕ → Frame
+frameBegun f begins last raster compare =
+    cond begins (ending≔ (f .ending || last) (matched≔ (not last && eqb raster compare) f)) f
+
+-- 01, tick 4: the frame flag is cleared
+unfoldable pub frameEnded : Frame → Bool → Frame
+frameEnded f wraps = cond wraps (ending≔ false f) f
+
+-- what the line and the frame do in a cycle, and what the rest of the tick reads of it
+unfoldable pub swept : Frame → Irq → ℕ → ℕ → ℕ → Swept
+swept f i cycle before compare =
+    -- tick 3: a line begins
+    let begins = happens lineBegins cycle in
+    let line = rasterBegun begins before in
+    let begun = frameBegun f begins (begins && atLastLine before) line compare in
+    -- tick 4: a frame ends
+    let wraps = happens frameEnds cycle && begun .ending in
+    record {
+      begins = begins;
+      line = line;
+      wraps = wraps;
+      raster = pick wraps 0 line;
+      frame = frameEnded begun wraps;
+      -- tick 3 and 4: at the frame's end without a look at the match
+      irq = raised i (matchRaises (begun .matched) (f .matched) || (wraps && eqb compare 0));
+    }

@@ -1,0 +1,122 @@
+// The line and the frame: where a line begins and a frame ends, the raster match, and the interrupt that it raises.
+ghost use mathlib.Core.Path.{_≡_};
+ghost use Prim.Native.Nat.{_<_};
+ghost use Rattle.raster.specs.Frame.{fresh, rasterBegun, matchRaises, frameBegun, frameEnded, raised, swept};
+use registers::Irq;
+
+// What waits from line to line: the frame's end and the raster match.
+pub struct Frame {
+    pub ending: bool,
+    pub matched: bool,
+}
+
+// What the line and the frame do in a cycle, and the line before a frame's end.
+pub struct Swept {
+    pub begins: bool,
+    pub line: u16,
+    pub wraps: bool,
+    pub raster: u16,
+    pub frame: Frame,
+    pub irq: Irq,
+}
+
+fn raster_begun(begins: bool, raster: u16) -> u16
+    ensures { λ r. ⌜ r ≡ rasterBegun begins raster ⌝ }
+{
+    if begins {
+        return timing::next_line(raster);
+    }
+    raster
+}
+
+// A match raises the interrupt once.
+pub fn match_raises(matched: bool, before: bool) -> bool
+    ensures { λ r. ⌜ r ≡ matchRaises matched before ⌝ }
+{
+    matched & !before
+}
+
+pub fn raise(irq: Irq, raises: bool) -> Irq
+    ensures { λ r. ⌜ r ≡ raised irq raises ⌝ }
+{
+    if raises {
+        return irq.trigger(1);
+    }
+    irq
+}
+
+impl Frame {
+    pub fn new() -> Self
+        ensures { λ r. ⌜ r ≡ fresh ⌝ }
+    {
+        Self {
+            ending: false,
+            matched: false,
+        }
+    }
+
+    // The first cycle of a line: the last line waits, any other is compared.
+    fn begin(mut self, begins: bool, last: bool, raster: u16, compare: u16) -> Self
+        ensures { λ r. ⌜ r ≡ frameBegun self begins last raster compare ⌝ }
+    {
+        if begins {
+            self.ending = self.ending | last;
+            self.matched = !last & (raster == compare);
+            return self;
+        }
+        self
+    }
+
+    // The frame's end, in the second cycle.
+    fn end(mut self, wraps: bool) -> Self
+        ensures { λ r. ⌜ r ≡ frameEnded self wraps ⌝ }
+    {
+        if wraps {
+            self.ending = false;
+            return self;
+        }
+        self
+    }
+}
+
+// A line begins, and a frame ends.
+fn sweep(frame: Frame, irq: Irq, cycle: u16, raster: u16, compare: u16) -> Swept
+    ensures { λ r. ⌜ r ≡ swept frame irq cycle raster compare ⌝ }
+{
+    let begins = schedule::line_begins(cycle);
+    let last = begins & timing::at_last_line(raster);
+    let line = raster_begun(begins, raster);
+    let begun = frame.begin(begins, last, line, compare);
+    let wraps = schedule::frame_ends(cycle) & begun.ending;
+    let shown = laws::pick16(wraps, 0, line);
+    let ended = begun.end(wraps);
+    let equal = match_raises(begun.matched, frame.matched);
+    let told = raise(irq, equal | (wraps & (compare == 0)));
+    Swept {
+        begins: begins,
+        line: line,
+        wraps: wraps,
+        raster: shown,
+        frame: ended,
+        irq: told,
+    }
+}
+
+// Past the second cycle neither happens.
+pub fn turn(frame: Frame, irq: Irq, cycle: u16, raster: u16, compare: u16) -> Swept
+    requires { ⌜ cycle < 64 ⌝ }
+    ensures { λ r. ⌜ r ≡ swept frame irq cycle raster compare ⌝ }
+{
+    let later = schedule::later(cycle);
+    if later {
+        return Swept {
+            begins: false,
+            line: raster,
+            wraps: false,
+            raster: raster,
+            frame: frame,
+            irq: irq,
+        };
+    }
+    sweep(frame, irq, cycle, raster, compare)
+}

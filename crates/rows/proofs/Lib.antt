@@ -1,0 +1,4 @@
+pub mod Glue
+pub mod Parts
+pub mod Kept
+pub mod Laws

@@ -1,0 +1,4 @@
+pub mod Pending
+pub mod Rows
+pub mod Fine
+pub mod Set

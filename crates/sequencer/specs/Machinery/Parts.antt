@@ -1,0 +1,46 @@
+-- A run of ticks is worked in parts: the cycles of a line with a graphics access, and those without one.
+use Prim.Native.Nat.{ℕ, _+_, _*_, _<_, _≤_}
+use mathlib.Core.Path.{_≡_}
+use mathlib.Core.Bool.{Bool, true}
+use lib.IntN.{ℤ, pos, negsuc}
+use lib.ListN.{length}
+use Rattle.laws.specs.Clock.{lastClock, inRange, canTick}
+use Rattle.memory.specs.Memory.{Lent}
+use Rattle.memory.specs.Lent.{Host, lentRefusal}
+use Rattle.registers.specs.declared.Registers.{Registers}
+use Rattle.chip.specs.Chip.{answer}
+use Rattle.chip.specs.Accept.{accepted}
+use Rattle.sequencer.specs.World.{World, chipOf}
+use Rattle.sequencer.specs.Tick.{ticksFrom}
+
+-- what a step of a run may lean on: the lent lengths, the arrays' lengths, and clocks whose difference fits
+pub record Ready (h : Host) (w : World) : Type 0 where
+  pub lent : Lent (h .ram) (h .rom)
+  pub colour : length (h .colour) ≡ 1024
+  pub forty : length (w .matrix) ≡ 40
+  pub eight : length (w .pointers) ≡ 8
+  pub threes : length (w .bytes) ≡ 24
+  pub eightWords : length (w .words) ≡ 8
+  pub clock : canTick (w .side .bus .clock)
+  pub forced : inRange (w .pen .forced)
+
+-- what a run holds from tick to tick: nothing lent is refused, the arrays keep their lengths, the state is accepted
+pub record Held (h : Host) (g : Registers) (w : World) : Type 0 where
+  pub free : lentRefusal h ≡ 0
+  pub forty : length (w .matrix) ≡ 40
+  pub eight : length (w .pointers) ≡ 8
+  pub threes : length (w .bytes) ≡ 24
+  pub eightWords : length (w .words) ≡ 8
+  pub fine : accepted (chipOf g w) ≡ true
+
+-- 01, States we accept: a clock that k ticks leave within its range
+abbrev pub Roomy : ℕ → ℤ → Type 0
+Roomy k (pos n) = n + 2 * k ≤ lastClock
+Roomy k (negsuc n) = ⊥
+
+-- what a part does: some of at most n ticks, none of them refused, and at least one where it goes at all
+pub record Part (h : Host) (g : Registers) (n : ℕ) (goes : Bool) (w : World) (done : ℕ) (v : World) : Type 0 where
+  pub within : done ≤ n
+  pub state : ticksFrom h done (chipOf g w) ≡ answer 0 (chipOf g v)
+  pub held : Held h g v
+  pub moved : goes ≡ true → 0 < n → 0 < done
