@@ -19,73 +19,73 @@ use Rattle.picture.specs.declared.Pen.{Pen}
 use Rattle.picture.specs.Pen.{sameClock, characterOf, graphicsOf, penAfter, matrixAfter, slotted}
 
 -- a cycle without a graphics access, and one with it
-module _ (m : List ℕ) (o : Orders) (clock : ℤ) (p : Pen) where
-  pub kept : not (o .graphics) ≡ true
-      → (_≡_ {A = Latch} (record { ch = p .ch; carry = p .carry }) (latchOf (characterOf m o clock p))) × (m ≡ characterOf m o clock p .matrix)
+module _ (m : List ℕ) (orders : Orders) (clock : ℤ) (p : Pen) where
+  pub kept : not (orders .graphics) ≡ true
+      → (_≡_ {A = Latch} (record { ch = p .ch; carry = p .carry }) (latchOf (characterOf m orders clock p))) × (m ≡ characterOf m orders clock p .matrix)
   unfolding characterOf
-  kept t = let s = not-true (o .graphics) t in (simp s, simp s)
+  kept t = let s = not-true (orders .graphics) t in (simp s, simp s)
 
   pub shown : {f : ℕ} {x : Latch} {m' : List ℕ}
-      → not (o .graphics) ≡ false
+      → not (orders .graphics) ≡ false
       → f ≡ sinceOf clock (p .forced)
-      → x ≡ latchOf (latched m (o .moves) (o .hidden) (o .plain) (o .cycle) f (o .vmli) (p .ch) (p .carry))
-      → m' ≡ latched m (o .moves) (o .hidden) (o .plain) (o .cycle) f (o .vmli) (p .ch) (p .carry) .matrix
-      → (x ≡ latchOf (characterOf m o clock p)) × (m' ≡ characterOf m o clock p .matrix)
+      → x ≡ latchOf (latched m (orders .moves) (orders .hidden) (orders .plain) (orders .cycle) f (orders .vmli) (p .ch) (p .carry))
+      → m' ≡ latched m (orders .moves) (orders .hidden) (orders .plain) (orders .cycle) f (orders .vmli) (p .ch) (p .carry) .matrix
+      → (x ≡ latchOf (characterOf m orders clock p)) × (m' ≡ characterOf m orders clock p .matrix)
   unfolding characterOf
-  shown t since latch line = let s = not-false (o .graphics) t in (simp (latch, since, s), simp (line, since, s))
+  shown t since latch line = let s = not-false (orders .graphics) t in (simp (latch, since, s), simp (line, since, s))
 
 -- the same for the graphics byte
-module _ (ch : ℕ) (o : Orders) (clock : ℤ) (p : Pen) (mode ptrs : ℕ) (ram rom : List ℕ) (bank : ℕ) where
+module _ (ch : ℕ) (orders : Orders) (clock : ℤ) (p : Pen) (mode ptrs : ℕ) (ram rom : List ℕ) (bank : ℕ) where
   pub cleared : {past : Bool} {r : ℕ}
-      → not (o .graphics) ≡ true
-      → past ≡ happens graphicsCleared (o .cycle)
+      → not (orders .graphics) ≡ true
+      → past ≡ happens graphicsCleared (orders .cycle)
       → r ≡ pick past 0 (p .gfx)
-      → r ≡ graphicsOf ch o clock p mode ptrs ram rom bank
+      → r ≡ graphicsOf ch orders clock p mode ptrs ram rom bank
   unfolding graphicsOf
-  cleared t past r = simp (r, past, not-true (o .graphics) t)
+  cleared t past r = simp (r, past, not-true (orders .graphics) t)
 
   pub fetches : {late same : Bool} {address : ℕ} {found : Found}
-      → not (o .graphics) ≡ false
-      → late ≡ happens lateIdle (o .cycle)
+      → not (orders .graphics) ≡ false
+      → late ≡ happens lateIdle (orders .cycle)
       → same ≡ sameClock clock (p .forced)
-      → address ≡ accessAddress (o .moves) (o .waiting && late && same) mode (p .old) ptrs ch (o .vc) (o .rc) bank
+      → address ≡ accessAddress (orders .moves) (orders .waiting && late && same) mode (p .old) ptrs ch (orders .vc) (orders .rc) bank
       → found ≡ readAt ram rom bank address
-      → found .byte ≡ graphicsOf ch o clock p mode ptrs ram rom bank
+      → found .byte ≡ graphicsOf ch orders clock p mode ptrs ram rom bank
   unfolding graphicsOf
-  fetches t late same address found = simp (found, address, late, same, not-false (o .graphics) t)
+  fetches t late same address found = simp (found, address, late, same, not-false (orders .graphics) t)
 
 -- what the code puts together
 abbrev made : Latch → ℕ → ℕ → ℕ → ℤ → Pen
 made x g mode old forced = record { ch = x .ch; carry = x .carry; gfx = g; mode = mode; old = old; changing = false; forced = forced }
 
-module _ (m : List ℕ) (o : Orders) (clock : ℤ) (p : Pen) (mode ptrs : ℕ) (ram rom colour : List ℕ) (bank : ℕ) where
+module _ (m : List ℕ) (orders : Orders) (clock : ℤ) (p : Pen) (mode ptrs : ℕ) (ram rom colour : List ℕ) (bank : ℕ) where
   pub drawn : {x : Latch} {g old : ℕ} {forced : ℤ} {m' m'' : List ℕ}
-      → x ≡ latchOf (characterOf m o clock p)
-      → m' ≡ characterOf m o clock p .matrix
-      → g ≡ graphicsOf (x .ch) o clock p mode ptrs ram rom bank
-      → m'' ≡ filled m' (o .fills) (o .place) (o .column) ptrs ram rom colour bank
+      → x ≡ latchOf (characterOf m orders clock p)
+      → m' ≡ characterOf m orders clock p .matrix
+      → g ≡ graphicsOf (x .ch) orders clock p mode ptrs ram rom bank
+      → m'' ≡ filled m' (orders .fills) (orders .place) (orders .column) ptrs ram rom colour bank
       → old ≡ pick (p .changing) mode (p .old)
       → forced ≡ p .forced
-      → (made x g mode old forced ≡ penAfter m o clock p mode ptrs ram rom bank) × (m'' ≡ matrixAfter m o clock p ptrs ram rom colour bank)
+      → (made x g mode old forced ≡ penAfter m orders clock p mode ptrs ram rom bank) × (m'' ≡ matrixAfter m orders clock p ptrs ram rom colour bank)
   unfolding penAfter matrixAfter
   drawn x m' g m'' old forced = (simp (g, old, forced, x), simp (m'', m'))
 
 -- a pointer slot, and a data slot
-module _ (p b w : List ℕ) (o : Orders) (ptrs : ℕ) (ram rom : List ℕ) (bank : ℕ) where
+module _ (p b w : List ℕ) (orders : Orders) (ptrs : ℕ) (ram rom : List ℕ) (bank : ℕ) where
   pub pointed : {p' b' : List ℕ} {first : Bool}
-      → o .pointing ≡ true
-      → first ≡ happens (pointerOf 0) (o .cycle)
-      → p' ≡ pointersAfter p (o .sprite) ptrs ram rom bank
-      → b' ≡ byteTwoAfter b (o .sprite) first (o .mask && o .flag) (o .mc) (o .low) ptrs ram rom bank
-      → (p' ≡ slotted p b w o ptrs ram rom bank .pointers) × ((b' ≡ slotted p b w o ptrs ram rom bank .bytes) × (w ≡ slotted p b w o ptrs ram rom bank .words))
+      → orders .pointing ≡ true
+      → first ≡ happens (pointerOf 0) (orders .cycle)
+      → p' ≡ pointersAfter p (orders .sprite) ptrs ram rom bank
+      → b' ≡ byteTwoAfter b (orders .sprite) first (orders .mask && orders .flag) (orders .mc) (orders .low) ptrs ram rom bank
+      → (p' ≡ slotted p b w orders ptrs ram rom bank .pointers) × ((b' ≡ slotted p b w orders ptrs ram rom bank .bytes) × (w ≡ slotted p b w orders ptrs ram rom bank .words))
   unfolding slotted
   pointed t first pointers bytes = (simp (pointers, t), (simp (bytes, first, t), simp t))
 
   pub fetched : {b' w' : List ℕ}
-      → o .pointing ≡ false
-      → o .fetching ≡ true
-      → b' ≡ dataAfter p b (o .sprite) (o .mask) (o .flag) (o .mc) (o .low) ram rom bank
-      → w' ≡ wordsAfter p b w (o .sprite) (o .mask) (o .flag) (o .mc) (o .low) ram rom bank
-      → (p ≡ slotted p b w o ptrs ram rom bank .pointers) × ((b' ≡ slotted p b w o ptrs ram rom bank .bytes) × (w' ≡ slotted p b w o ptrs ram rom bank .words))
+      → orders .pointing ≡ false
+      → orders .fetching ≡ true
+      → b' ≡ dataAfter p b (orders .sprite) (orders .mask) (orders .flag) (orders .mc) (orders .low) ram rom bank
+      → w' ≡ wordsAfter p b w (orders .sprite) (orders .mask) (orders .flag) (orders .mc) (orders .low) ram rom bank
+      → (p ≡ slotted p b w orders ptrs ram rom bank .pointers) × ((b' ≡ slotted p b w orders ptrs ram rom bank .bytes) × (w' ≡ slotted p b w orders ptrs ram rom bank .words))
   unfolding slotted
   fetched t u bytes words = (simp (t, u), (simp (bytes, t, u), simp (words, t, u)))

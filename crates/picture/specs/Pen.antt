@@ -27,27 +27,27 @@ sameClock (negsuc m) (pos n) = false
 
 -- Bauer 3.7.2 rule 3: a graphics access latches the character that it shows
 unfoldable pub characterOf : List ℕ → Orders → ℤ → Pen → Merging
-characterOf matrix o clock p =
-    cond (o .graphics)
-    (latched matrix (o .moves) (o .hidden) (o .plain) (o .cycle) (sinceOf clock (p .forced)) (o .vmli) (p .ch) (p .carry))
+characterOf matrix orders clock p =
+    cond (orders .graphics)
+    (latched matrix (orders .moves) (orders .hidden) (orders .plain) (orders .cycle) (sinceOf clock (p .forced)) (orders .vmli) (p .ch) (p .carry))
     (merging (p .ch) (p .carry) matrix)
 
 -- 01, tick 8: the byte of the graphics access, 0 in the cycle after the last
 unfoldable pub graphicsOf : ℕ → Orders → ℤ → Pen → ℕ → ℕ → List ℕ → List ℕ → ℕ → ℕ
-graphicsOf ch o clock p mode ptrs ram rom bank =
-    let forced = o .waiting && happens lateIdle (o .cycle) && sameClock clock (p .forced) in
-    cond (o .graphics)
-    (readAt ram rom bank (accessAddress (o .moves) forced mode (p .old) ptrs ch (o .vc) (o .rc) bank) .byte)
-    (pick (happens graphicsCleared (o .cycle)) 0 (p .gfx))
+graphicsOf ch orders clock p mode ptrs ram rom bank =
+    let forced = orders .waiting && happens lateIdle (orders .cycle) && sameClock clock (p .forced) in
+    cond (orders .graphics)
+    (readAt ram rom bank (accessAddress (orders .moves) forced mode (p .old) ptrs ch (orders .vc) (orders .rc) bank) .byte)
+    (pick (happens graphicsCleared (orders .cycle)) 0 (p .gfx))
 
 -- 01, tick 6 and 10: the mode of this tick; a mode-changing flag is cleared and the mode before moves on
 unfoldable pub penAfter : List ℕ → Orders → ℤ → Pen → ℕ → ℕ → List ℕ → List ℕ → ℕ → Pen
-penAfter matrix o clock p mode ptrs ram rom bank =
-    let latch = characterOf matrix o clock p in
+penAfter matrix orders clock p mode ptrs ram rom bank =
+    let latch = characterOf matrix orders clock p in
     record {
       ch = latch .ch;
       carry = latch .carry;
-      gfx = graphicsOf (latch .ch) o clock p mode ptrs ram rom bank;
+      gfx = graphicsOf (latch .ch) orders clock p mode ptrs ram rom bank;
       mode = mode;
       old = pick (p .changing) mode (p .old);
       changing = false;
@@ -56,8 +56,8 @@ penAfter matrix o clock p mode ptrs ram rom bank =
 
 -- 01, tick 8: graphics access, then character access
 unfoldable pub matrixAfter : List ℕ → Orders → ℤ → Pen → ℕ → List ℕ → List ℕ → List ℕ → ℕ → List ℕ
-matrixAfter matrix o clock p ptrs ram rom colour bank =
-    filled (characterOf matrix o clock p .matrix) (o .fills) (o .place) (o .column) ptrs ram rom colour bank
+matrixAfter matrix orders clock p ptrs ram rom colour bank =
+    filled (characterOf matrix orders clock p .matrix) (orders .fills) (orders .place) (orders .column) ptrs ram rom colour bank
 
 -- what the sprites' slots fetched: eight pointers, three bytes a sprite, eight words
 pub record Latches : Type 0 where
@@ -67,17 +67,17 @@ pub record Latches : Type 0 where
 
 -- DECISIONS 22: pointer and byte 2, or bytes 1 and 0 and the word; sprite 0's byte 2 in the cycle that loads MC wants the bus
 unfoldable pub slotted : List ℕ → List ℕ → List ℕ → Orders → ℕ → List ℕ → List ℕ → ℕ → Latches
-slotted pointers bytes words o ptrs ram rom bank =
-    cond (o .pointing)
+slotted pointers bytes words orders ptrs ram rom bank =
+    cond (orders .pointing)
     (record {
-      pointers = pointersAfter pointers (o .sprite) ptrs ram rom bank;
-      bytes = byteTwoAfter bytes (o .sprite) (happens (pointerOf 0) (o .cycle)) (o .mask && o .flag) (o .mc) (o .low) ptrs ram rom bank;
+      pointers = pointersAfter pointers (orders .sprite) ptrs ram rom bank;
+      bytes = byteTwoAfter bytes (orders .sprite) (happens (pointerOf 0) (orders .cycle)) (orders .mask && orders .flag) (orders .mc) (orders .low) ptrs ram rom bank;
       words = words;
     })
-    (cond (o .fetching)
+    (cond (orders .fetching)
     (record {
       pointers = pointers;
-      bytes = dataAfter pointers bytes (o .sprite) (o .mask) (o .flag) (o .mc) (o .low) ram rom bank;
-      words = wordsAfter pointers bytes words (o .sprite) (o .mask) (o .flag) (o .mc) (o .low) ram rom bank;
+      bytes = dataAfter pointers bytes (orders .sprite) (orders .mask) (orders .flag) (orders .mc) (orders .low) ram rom bank;
+      words = wordsAfter pointers bytes words (orders .sprite) (orders .mask) (orders .flag) (orders .mc) (orders .low) ram rom bank;
     })
     (record { pointers = pointers; bytes = bytes; words = words }))

@@ -46,11 +46,11 @@ pub fn same_clock(clock: i64, forced: i64) -> bool
 }
 
 // The character latch after the graphics access of this cycle, if it has one.
-pub fn character(matrix: &mut [u16], o: Orders, clock: i64, pen: Pen) -> Latch
+pub fn character(matrix: &mut [u16], orders: Orders, clock: i64, pen: Pen) -> Latch
     requires { ⌜ length (now matrix) ≡ 40 ⌝ ∗ ⌜ inRange clock × inRange (pen .forced) ⌝ }
-    ensures { λ r. ⌜ r ≡ latchOf (characterOf (now (matrix .entry)) o clock pen) ⌝ ∗ ⌜ now (matrix .exit) ≡ characterOf (now (matrix .entry)) o clock pen .matrix ⌝ }
+    ensures { λ r. ⌜ r ≡ latchOf (characterOf (now (matrix .entry)) orders clock pen) ⌝ ∗ ⌜ now (matrix .exit) ≡ characterOf (now (matrix .entry)) orders clock pen .matrix ⌝ }
 {
-    let graphics = o.graphics;
+    let graphics = orders.graphics;
     if !graphics {
         return Latch {
             ch: pen.ch,
@@ -60,12 +60,12 @@ pub fn character(matrix: &mut [u16], o: Orders, clock: i64, pen: Pen) -> Latch
     let f = access::since(clock, pen.forced);
     access::latched_char(
         matrix,
-        o.moves,
-        o.hidden,
-        o.plain,
-        o.cycle,
+        orders.moves,
+        orders.hidden,
+        orders.plain,
+        orders.cycle,
         f,
-        o.vmli,
+        orders.vmli,
         pen.ch,
         pen.carry,
     )
@@ -74,7 +74,7 @@ pub fn character(matrix: &mut [u16], o: Orders, clock: i64, pen: Pen) -> Latch
 // The graphics byte after this cycle.
 pub fn graphics(
     ch: u16,
-    o: Orders,
+    orders: Orders,
     clock: i64,
     pen: Pen,
     mode: u8,
@@ -84,22 +84,22 @@ pub fn graphics(
     bank: u8,
 ) -> u8
     requires { ⌜ Lent (now ram) (now rom) ⌝ }
-    ensures { λ r. ⌜ r ≡ graphicsOf ch o clock pen mode ptrs (now (ram .entry)) (now (rom .entry)) bank ⌝ }
+    ensures { λ r. ⌜ r ≡ graphicsOf ch orders clock pen mode ptrs (now (ram .entry)) (now (rom .entry)) bank ⌝ }
 {
-    let graphics = o.graphics;
+    let graphics = orders.graphics;
     if !graphics {
-        return laws::pick8(schedule::graphics_cleared(o.cycle), 0, pen.gfx);
+        return laws::pick8(schedule::graphics_cleared(orders.cycle), 0, pen.gfx);
     }
-    let forced = o.waiting & schedule::late_idle(o.cycle) & same_clock(clock, pen.forced);
+    let forced = orders.waiting & schedule::late_idle(orders.cycle) & same_clock(clock, pen.forced);
     let address = access::access_address(
-        o.moves,
+        orders.moves,
         forced,
         mode,
         pen.old,
         ptrs,
         ch,
-        o.vc,
-        o.rc,
+        orders.vc,
+        orders.rc,
         bank,
     );
     let found = memory::read(ram, rom, bank, address);
@@ -109,7 +109,7 @@ pub fn graphics(
 // The picture's numbers after a cycle; the matrix line takes the character access of the same cycle.
 pub fn draw(
     pen: Pen,
-    o: Orders,
+    orders: Orders,
     clock: i64,
     mode: u8,
     ptrs: u8,
@@ -120,15 +120,15 @@ pub fn draw(
     bank: u8,
 ) -> Pen
     requires { ⌜ length (now matrix) ≡ 40 ⌝ ∗ ⌜ inRange clock × inRange (pen .forced) ⌝ ∗ ⌜ Lent (now ram) (now rom) ⌝ ∗ ⌜ length (now colour) ≡ 1024 ⌝ }
-    ensures { λ r. ⌜ r ≡ penAfter (now (matrix .entry)) o clock pen mode ptrs (now (ram .entry)) (now (rom .entry)) bank ⌝ ∗ ⌜ now (matrix .exit) ≡ matrixAfter (now (matrix .entry)) o clock pen ptrs (now (ram .entry)) (now (rom .entry)) (now (colour .entry)) bank ⌝ }
+    ensures { λ r. ⌜ r ≡ penAfter (now (matrix .entry)) orders clock pen mode ptrs (now (ram .entry)) (now (rom .entry)) bank ⌝ ∗ ⌜ now (matrix .exit) ≡ matrixAfter (now (matrix .entry)) orders clock pen ptrs (now (ram .entry)) (now (rom .entry)) (now (colour .entry)) bank ⌝ }
 {
-    let latch = character(matrix, o, clock, pen);
-    let gfx = graphics(latch.ch, o, clock, pen, mode, ptrs, ram, rom, bank);
+    let latch = character(matrix, orders, clock, pen);
+    let gfx = graphics(latch.ch, orders, clock, pen, mode, ptrs, ram, rom, bank);
     access::fill(
         matrix,
-        o.fills,
-        o.place,
-        o.column,
+        orders.fills,
+        orders.place,
+        orders.column,
         ptrs,
         ram,
         rom,
@@ -192,27 +192,27 @@ pub fn slot(
     pointers: &mut [u8],
     bytes: &mut [u8],
     words: &mut [u32],
-    o: Orders,
+    orders: Orders,
     ptrs: u8,
     ram: &[u8],
     rom: &[u8],
     bank: u8,
 )
-    requires { ⌜ (length (now pointers) ≡ 8) × (length (now bytes) ≡ 24) × (length (now words) ≡ 8) ⌝ ∗ ⌜ o .sprite < 8 ⌝ ∗ ⌜ Lent (now ram) (now rom) ⌝ }
-    ensures { λ r. ⌜ now (pointers .exit) ≡ slotted (now (pointers .entry)) (now (bytes .entry)) (now (words .entry)) o ptrs (now (ram .entry)) (now (rom .entry)) bank .pointers ⌝ ∗ ⌜ now (bytes .exit) ≡ slotted (now (pointers .entry)) (now (bytes .entry)) (now (words .entry)) o ptrs (now (ram .entry)) (now (rom .entry)) bank .bytes ⌝ ∗ ⌜ now (words .exit) ≡ slotted (now (pointers .entry)) (now (bytes .entry)) (now (words .entry)) o ptrs (now (ram .entry)) (now (rom .entry)) bank .words ⌝ }
+    requires { ⌜ (length (now pointers) ≡ 8) × (length (now bytes) ≡ 24) × (length (now words) ≡ 8) ⌝ ∗ ⌜ orders .sprite < 8 ⌝ ∗ ⌜ Lent (now ram) (now rom) ⌝ }
+    ensures { λ r. ⌜ now (pointers .exit) ≡ slotted (now (pointers .entry)) (now (bytes .entry)) (now (words .entry)) orders ptrs (now (ram .entry)) (now (rom .entry)) bank .pointers ⌝ ∗ ⌜ now (bytes .exit) ≡ slotted (now (pointers .entry)) (now (bytes .entry)) (now (words .entry)) orders ptrs (now (ram .entry)) (now (rom .entry)) bank .bytes ⌝ ∗ ⌜ now (words .exit) ≡ slotted (now (pointers .entry)) (now (bytes .entry)) (now (words .entry)) orders ptrs (now (ram .entry)) (now (rom .entry)) bank .words ⌝ }
 {
-    let k = o.sprite;
-    let pointing = o.pointing;
-    let fetching = o.fetching;
+    let k = orders.sprite;
+    let pointing = orders.pointing;
+    let fetching = orders.fetching;
     if pointing {
         access::pointer_slot(
             pointers,
             bytes,
             k,
-            schedule::first_slot(o.cycle),
-            o.mask & o.flag,
-            o.mc,
-            o.low,
+            schedule::first_slot(orders.cycle),
+            orders.mask & orders.flag,
+            orders.mc,
+            orders.low,
             ptrs,
             ram,
             rom,
@@ -226,10 +226,10 @@ pub fn slot(
             bytes,
             words,
             k,
-            o.mask,
-            o.flag,
-            o.mc,
-            o.low,
+            orders.mask,
+            orders.flag,
+            orders.mc,
+            orders.low,
             ram,
             rom,
             bank,
