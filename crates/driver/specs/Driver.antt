@@ -13,7 +13,7 @@ use Rattle.script.specs.declared.Item.{Item}
 use Rattle.script.specs.declared.Item.the-variants as item
 use Rattle.script.specs.declared.Cursor.{Cursor}
 use Rattle.script.specs.declared.Found.{Found}
-use Rattle.script.specs.Cursor.{startOf}
+use Rattle.script.specs.Machinery.Cursor.{startOf}
 use Rattle.chip.specs.Chip.{powered}
 use Rattle.run.specs.declared.Done.{Done}
 use Rattle.run.specs.Run.{doneOf}

@@ -25,7 +25,7 @@ use Rattle.script.specs.declared.Cursor.{Cursor}
 use Rattle.script.specs.declared.Found.{Found}
 use Rattle.script.specs.Step.{allowedIf, stepDecoded, stepOf, allowed}
 use Rattle.script.specs.File.{sizeOf, countOf, changeOf, endOf}
-use Rattle.script.specs.Cursor.{stays, countFrom, changeFrom, stepFrom, changesBegun, stepsBegun, changed, stepRead, begun, recorded, nextOf}
+use Rattle.script.specs.Machinery.Cursor.{stays, countFrom, changeFrom, stepFrom, changesBegun, stepsBegun, changed, stepRead, begun, recorded, nextOf}
 
 -- 01, Run file: an address that is read lies in its memory
 abbrev Inside : ℕ → Change → Type 0

@@ -18,8 +18,8 @@ use Rattle.script.specs.declared.Part.the-variants as part
 use Rattle.script.specs.declared.Cursor.{Cursor}
 use Rattle.script.specs.declared.Found.{Found}
 use Rattle.script.specs.Step.{stepOf}
-use Rattle.script.specs.Cursor.{stepFrom, stepRead, recorded, atStep, nextOf}
-use Rattle.script.specs.Block.{blockSteps, blockLen, blockFrom}
+use Rattle.script.specs.Machinery.Cursor.{stepFrom, stepRead, recorded, atStep, nextOf}
+use Rattle.script.specs.Machinery.Block.{blockSteps, blockLen, blockFrom}
 
 -- 01, Run file: a block is at most 13,107 steps, none more than are left; there is one while steps are left
 pub record Lent (left : ℕ) : Type 0 where

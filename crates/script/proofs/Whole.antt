@@ -21,7 +21,7 @@ use Rattle.script.specs.declared.Cursor.{Cursor}
 use Rattle.script.specs.declared.Found.{Found}
 use Rattle.script.specs.Step.{stepOf}
 use Rattle.script.specs.File.{sizeOf, countOf, changeOf, endOf, afterCount, afterChange, afterStep, changes, section, steps, script, runOf}
-use Rattle.script.specs.Cursor.{stays, countFrom, changeFrom, stepFrom, changesBegun, stepsBegun, changed, stepRead, begun, recorded, startOf, nextOf, isLast, readFrom}
+use Rattle.script.specs.Machinery.Cursor.{stays, countFrom, changeFrom, stepFrom, changesBegun, stepsBegun, changed, stepRead, begun, recorded, startOf, nextOf, isLast, readFrom}
 use Rattle.script.proofs.Room.{count-room, change-room, step-room}
 
 -- what the file still says where so many records of a part are left

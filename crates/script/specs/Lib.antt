@@ -1,4 +1,3 @@
 pub mod Step
 pub mod File
-pub mod Cursor
-pub mod Block
+pub mod Machinery

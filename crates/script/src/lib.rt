@@ -6,8 +6,8 @@ ghost use lib.ListN.{length, drop};
 ghost use Rattle.laws.specs.Bytes.{word};
 ghost use Rattle.script.specs.Step.{allowedIf, stepDecoded, stepOf, byteOf, bytesOf};
 ghost use Rattle.script.specs.File.{sizeOf, countOf, changeOf, endOf};
-ghost use Rattle.script.specs.Cursor.{stepFrom, atStep, changesBegun, stepsBegun, changed, stepRead, begun, recorded, startOf, nextOf};
-ghost use Rattle.script.specs.Block.{blockSteps, blockLen, blockFrom};
+ghost use Rattle.script.specs.Machinery.Cursor.{stepFrom, atStep, changesBegun, stepsBegun, changed, stepRead, begun, recorded, startOf, nextOf};
+ghost use Rattle.script.specs.Machinery.Block.{blockSteps, blockLen, blockFrom};
 
 // A step of the run, with its fields as 01 lists them.
 pub enum Step {

@@ -10,7 +10,7 @@ use Rattle.script.specs.declared.Item.{Item}
 use Rattle.script.specs.declared.Item.the-variants as item
 use Rattle.script.specs.declared.Step.{Step}
 use Rattle.script.specs.declared.Cursor.{Cursor}
-use Rattle.script.specs.Cursor.{startOf, nextOf, isLast, readFrom}
+use Rattle.script.specs.Machinery.Cursor.{startOf, nextOf, isLast, readFrom}
 use Rattle.script.proofs.Whole.{goes-on, whole}
 use Rattle.run.specs.declared.Done.{Done}
 use Rattle.run.specs.Run.{doneOf}
@@ -18,7 +18,7 @@ use Rattle.line.specs.Text.{Written}
 use Rattle.sheet.specs.declared.Run.{Run}
 use Rattle.driver.specs.Driver.{Store, hostOf, madeBy, madeDoing, madeAt, storeAt, begunOf as driveBegun}
 use Rattle.sheet.specs.Sheet.{drivenOf, withText, begunOf, cursorAt, textOf, saidAt, runAt, saidIn, runIn, storeIn}
-use Rattle.sheet.specs.Fill.{Sheet, sheet, oneTurn, goes, turns, emptied, Filled, ahead}
+use Rattle.sheet.specs.Machinery.Fill.{Sheet, sheet, oneTurn, goes, turns, emptied, Filled, ahead}
 use Rattle.sheet.specs.Chart.{told, chartOf}
 use Rattle.sheet.proofs.Less.{keeps-cursor}
 use Rattle.sheet.proofs.Loop.{never, is-going}

@@ -9,12 +9,12 @@ use lib.Dec.{leb}
 use lib.ListN.{length, take, set, length-set}
 use lib.Seq.{take-suc-set}
 use Rattle.laws.proofs.Choice.{either}
-use Rattle.script.specs.Cursor.{startOf}
+use Rattle.script.specs.Machinery.Cursor.{startOf}
 use Rattle.line.specs.Text.{Written, pasted}
 use Rattle.sheet.specs.declared.Run.{Run}
 use Rattle.driver.specs.Driver.{Store, begunOf as driveBegun}
 use Rattle.sheet.specs.Sheet.{begunOf, runIn, storeIn}
-use Rattle.sheet.specs.Fill.{Sheet, sheet, oneTurn, goes, turns, emptied, Filled, ahead}
+use Rattle.sheet.specs.Machinery.Fill.{Sheet, sheet, oneTurn, goes, turns, emptied, Filled, ahead}
 use Rattle.sheet.specs.Chart.{chartOf, End, end, roomed, ended, endedOf, Ends}
 use Rattle.sheet.proofs.Less.{turn-less}
 use Rattle.sheet.proofs.Loop.{never, both}

@@ -10,13 +10,13 @@ use borrow.Author.Tests.{lt-ltb, ltb-true}
 use Rattle.script.specs.declared.Found.{Found}
 use Rattle.script.specs.declared.Cursor.{Cursor}
 use Rattle.script.specs.Step.{stepOf}
-use Rattle.script.specs.Cursor.{stepFrom, atStep, nextOf}
-use Rattle.script.specs.Block.{blockSteps, blockFrom}
+use Rattle.script.specs.Machinery.Cursor.{stepFrom, atStep, nextOf}
+use Rattle.script.specs.Machinery.Block.{blockSteps, blockFrom}
 use Rattle.script.proofs.Blocks.{Within, lent, begins, block-inside, block-next, within-on}
 use Rattle.sheet.specs.declared.Run.{Run}
 use Rattle.driver.specs.Driver.{Store}
 use Rattle.sheet.specs.Sheet.{cursorAt}
-use Rattle.sheet.specs.Fill.{goes, Gone}
+use Rattle.sheet.specs.Machinery.Fill.{goes, Gone}
 use Rattle.sheet.proofs.Less.{keeps-cursor}
 use Rattle.sheet.proofs.Loop.{both, Did, one-turn}
 

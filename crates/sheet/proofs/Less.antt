@@ -9,7 +9,7 @@ use Rattle.script.specs.declared.Item.{Item}
 use Rattle.script.specs.declared.Item.the-variants as item
 use Rattle.script.specs.declared.Step.{Step}
 use Rattle.script.specs.declared.Cursor.{Cursor}
-use Rattle.script.specs.Cursor.{nextOf, isLast}
+use Rattle.script.specs.Machinery.Cursor.{nextOf, isLast}
 use Rattle.script.proofs.Whole.{Onward, goes-on}
 use Rattle.run.specs.declared.Done.{Done}
 use Rattle.run.specs.Run.{doneOf}
@@ -17,7 +17,7 @@ use Rattle.sheet.specs.declared.Run.{Run}
 use Rattle.driver.specs.declared.Run.{Run as Drive}
 use Rattle.driver.specs.Driver.{Store, hostOf, madeBy, madeDoing, madeAt}
 use Rattle.sheet.specs.Sheet.{drivenOf, withText, cursorAt, runAt, runIn}
-use Rattle.sheet.specs.Fill.{ahead}
+use Rattle.sheet.specs.Machinery.Fill.{ahead}
 
 did-cursor : (r : Drive) (s : Step) (d : Done) (fine : Bool) → eqb (d .refused) 0 ≡ fine → madeBy r s d .run .cursor ≡ r .cursor
 did-cursor r s d true e = simp e

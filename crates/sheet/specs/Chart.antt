@@ -10,7 +10,7 @@ use Rattle.script.specs.File.{runOf}
 use Rattle.sheet.specs.declared.Run.{Run}
 use Rattle.driver.specs.Driver.{Store, storeAt}
 use Rattle.sheet.specs.Sheet.{begunOf, saidAt, runAt, runIn, storeIn}
-use Rattle.sheet.specs.Fill.{emptied}
+use Rattle.sheet.specs.Machinery.Fill.{emptied}
 
 -- 01, chart: the items' text, up to the one that ends the run
 unfoldable pub told : Store → Run → List Item → List ℕ

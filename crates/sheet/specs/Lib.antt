@@ -1,3 +1,3 @@
 pub mod Sheet
-pub mod Fill
+pub mod Machinery
 pub mod Chart

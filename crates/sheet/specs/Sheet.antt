@@ -6,7 +6,7 @@ use lib.ListN.{length}
 use Rattle.script.specs.declared.Item.{Item}
 use Rattle.script.specs.declared.Cursor.{Cursor}
 use Rattle.script.specs.declared.Found.{Found}
-use Rattle.script.specs.Cursor.{nextOf}
+use Rattle.script.specs.Machinery.Cursor.{nextOf}
 use Rattle.chip.specs.declared.Chip.{Chip}
 use Rattle.driver.specs.declared.Run.{Run as Drive}
 use Rattle.driver.specs.declared.Event.{Event}

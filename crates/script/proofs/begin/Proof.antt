@@ -1,5 +1,5 @@
 use borrow.Author.Needs.{needs}
-use Rattle.script.specs.Cursor.{begun}
+use Rattle.script.specs.Machinery.Cursor.{begun}
 use Rattle.script.proofs.begin.Statement.{statement}
 use Rattle.script.proofs.begin.Tie as tie
 

@@ -5,7 +5,7 @@ use native.Mathlib.Nat.{add-sub-cancel-left}
 use lib.ListN.{length, drop, length-drop, drop-of-length-le}
 use lib.Seq.{take-nil, take-all}
 use borrow.Author.Needs.{needs}
-use Rattle.script.specs.Block.{blockLen}
+use Rattle.script.specs.Machinery.Block.{blockLen}
 use Rattle.script.proofs.block.Statement.{statement}
 use Rattle.script.proofs.block.Tie as tie
 

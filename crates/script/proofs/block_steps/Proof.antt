@@ -1,5 +1,5 @@
 use borrow.Author.Tests.{lt-ltb, le-ltb}
-use Rattle.script.specs.Block.{blockSteps}
+use Rattle.script.specs.Machinery.Block.{blockSteps}
 use Rattle.script.proofs.block_steps.Statement.{statement}
 use Rattle.script.proofs.block_steps.Tie as tie
 

@@ -1,7 +1,7 @@
 use mathlib.Core.Path.{sym, _∙_}
 use native.Mathlib.Omega.{arith}
 use borrow.Author.Needs.{needs}
-use Rattle.script.specs.Cursor.{changed}
+use Rattle.script.specs.Machinery.Cursor.{changed}
 use Rattle.script.proofs.Room.{change-room}
 use Rattle.script.proofs.change_in.Statement.{statement}
 use Rattle.script.proofs.change_in.Tie as tie

@@ -1,7 +1,7 @@
 use mathlib.Core.Path.{sym, _∙_}
 use native.Mathlib.Omega.{arith}
 use borrow.Author.Needs.{needs}
-use Rattle.script.specs.Cursor.{changesBegun}
+use Rattle.script.specs.Machinery.Cursor.{changesBegun}
 use Rattle.script.proofs.Room.{count-room}
 use Rattle.script.proofs.changes_begin.Statement.{statement}
 use Rattle.script.proofs.changes_begin.Tie as tie

@@ -1,5 +1,5 @@
 use borrow.Author.Needs.{needs}
-use Rattle.script.specs.Cursor.{recorded}
+use Rattle.script.specs.Machinery.Cursor.{recorded}
 use Rattle.script.proofs.record_in.Statement.{statement}
 use Rattle.script.proofs.record_in.Tie as tie
 

@@ -4,7 +4,7 @@ use native.Mathlib.Omega.{arith}
 use borrow.Author.Needs.{needs}
 use lib.ListN.{length, drop}
 use Rattle.script.specs.Step.{stepOf}
-use Rattle.script.specs.Cursor.{stepFrom}
+use Rattle.script.specs.Machinery.Cursor.{stepFrom}
 use Rattle.script.proofs.Blocks.{block-inside, block-first}
 use Rattle.script.proofs.step_in.Statement.{statement}
 use Rattle.script.proofs.step_in.Tie as tie

@@ -4,7 +4,7 @@ use lib.ListN.{length}
 use borrow.Author.Needs.{needs}
 use Rattle.sheet.specs.declared.Run.{Run}
 use Rattle.driver.specs.Driver.{store}
-use Rattle.sheet.specs.Fill.{ahead}
+use Rattle.sheet.specs.Machinery.Fill.{ahead}
 use Rattle.sheet.proofs.Loop.{Going, at-first, some-more, at-last, less}
 use Rattle.sheet.proofs.fill.Statement.{statement}
 use Rattle.sheet.proofs.fill.Tie as tie

@@ -3,7 +3,7 @@ use native.Mathlib.Omega.{arith}
 use lib.ListN.{length}
 use borrow.Author.Needs.{needs}
 use Rattle.driver.specs.Driver.{store}
-use Rattle.sheet.specs.Fill.{ahead}
+use Rattle.sheet.specs.Machinery.Fill.{ahead}
 use Rattle.sheet.proofs.Ends.{Prints, nothing-yet, one-block, all-ended, all-printed}
 use Rattle.sheet.proofs.print.Statement.{statement}
 use Rattle.sheet.proofs.print.Tie as tie

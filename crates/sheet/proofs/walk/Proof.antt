@@ -5,7 +5,7 @@ use lib.ListN.{length}
 use borrow.Author.Needs.{needs}
 use Rattle.script.proofs.Blocks.{Within, lent, begins}
 use Rattle.driver.specs.Driver.{store}
-use Rattle.sheet.specs.Fill.{ahead}
+use Rattle.sheet.specs.Machinery.Fill.{ahead}
 use Rattle.sheet.proofs.Loop.{Going, has-room, at-first, some-more, went}
 use Rattle.sheet.proofs.Lent.{walks, walks-first, goes-here, may-read, one-step, step-within}
 use Rattle.sheet.proofs.walk.Statement.{statement}

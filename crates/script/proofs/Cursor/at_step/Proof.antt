@@ -1,5 +1,5 @@
 use borrow.Author.Needs.{needs}
-use Rattle.script.specs.Cursor.{atStep}
+use Rattle.script.specs.Machinery.Cursor.{atStep}
 use Rattle.script.proofs.Cursor.at_step.Statement.{statement}
 use Rattle.script.proofs.Cursor.at_step.Tie as tie
 

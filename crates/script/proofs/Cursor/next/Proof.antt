@@ -1,6 +1,6 @@
 use borrow.Author.Needs.{needs}
 use borrow.Author.Tests.{eq-eqb, ne-eqb}
-use Rattle.script.specs.Cursor.{nextOf}
+use Rattle.script.specs.Machinery.Cursor.{nextOf}
 use Rattle.script.proofs.Cursor.next.Statement.{statement}
 use Rattle.script.proofs.Cursor.next.Tie as tie
 

@@ -1,5 +1,5 @@
 use mathlib.Core.Path.{refl}
-use Rattle.script.specs.Cursor.{startOf}
+use Rattle.script.specs.Machinery.Cursor.{startOf}
 use Rattle.script.proofs.Cursor.start.Statement.{statement}
 use Rattle.script.proofs.Cursor.start.Tie as tie
 

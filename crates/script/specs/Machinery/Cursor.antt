@@ -1,4 +1,4 @@
--- A run file one record at a time: what it says at a cursor, and the cursor past it.
+-- A run file one record at a time: what it says at a cursor, and the cursor past it. No rules: how the reader goes through what `File` says.
 use Prim.Native.Nat.{ℕ, zero, suc, _+_, _-_}
 use mathlib.Core.Bool.{Bool, true, false, cond}
 use mathlib.Core.List.{List, [], _∷_}
