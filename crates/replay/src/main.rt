@@ -2,33 +2,16 @@
 // the refusal, the answer and the chip after it come out. The format is `Replay`.
 ghost use mathlib.Core.Path.{_≡_};
 ghost use lib.ListN.{length};
-use chip::Answer;
 use chip::Chip;
 use libc::STDIN_FILENO;
 use libc::STDOUT_FILENO;
+use script::Step;
 
 // What a call leaves: its refusal, its answer and the chip.
 struct Told {
     refused: u8,
     value: u16,
     chip: Chip,
-}
-
-fn plain(chip: Chip) -> Told {
-    Told {
-        refused: 0,
-        value: 0,
-        chip: chip,
-    }
-}
-
-fn judged(answer: Answer) -> Told {
-    let chip = answer.chip;
-    Told {
-        refused: answer.refused,
-        value: 0,
-        chip: chip,
-    }
 }
 
 fn valued(value: u16, chip: Chip) -> Told {
@@ -39,27 +22,41 @@ fn valued(value: u16, chip: Chip) -> Told {
     }
 }
 
-fn ticked(chip: Chip, memories: &[u8], bank: u8) -> Told
+// A step of a run file, done as a run does it.
+fn stepped(chip: Chip, memories: &[u8], bank: u8, step: Step) -> Told
     requires { ⌜ length (now memories) ≡ 21504 ⌝ }
 {
-    let ticked = sequencer::tick(
+    let done = run::step(
         chip,
+        bank,
+        step,
         &memories[0..16384],
         &memories[16384..20480],
         &memories[20480..21504],
-        bank,
     );
-    judged(ticked)
+    let after = done.chip;
+    Told {
+        refused: done.refused,
+        value: 0,
+        chip: after,
+    }
 }
 
 fn odd(b: u8) -> bool {
     b % 2 == 1
 }
 
-fn displayed(chip: Chip, a: u8, b: u8, c: u8, d: u8) -> Told {
-    let side = chip.side;
-    let bus = side.bus;
-    judged(calls::place_display(chip, odd(a), odd(b), odd(c), odd(d), bus.clock))
+// The calls that a run file has too: their numbers are its kinds.
+fn step_of(call: u8, a: u8, b: u8, c: u8, d: u8) -> Step {
+    match call {
+        0 => Step::Tick,
+        1 => Step::Write(a, b),
+        2 => Step::Expand(a),
+        3 => Step::Controls(a, b, c as u16 + d as u16 * 256),
+        4 => Step::Late(a),
+        5 => Step::Borders,
+        _ => Step::Display(odd(a), odd(b), odd(c), odd(d)),
+    }
 }
 
 fn high_at_phi1(chip: Chip) -> u16 {
@@ -74,26 +71,8 @@ fn dma_count(chip: Chip) -> u16 {
 fn perform(chip: Chip, memories: &[u8], call: u8, bank: u8, a: u8, b: u8, c: u8, d: u8) -> Told
     requires { ⌜ length (now memories) ≡ 21504 ⌝ }
 {
-    if call == 0 {
-        return ticked(chip, memories, bank);
-    }
-    if call == 1 {
-        return plain(calls::write_register(chip, a as u16, b));
-    }
-    if call == 2 {
-        return plain(calls::write_y_expand(chip, a));
-    }
-    if call == 3 {
-        return judged(calls::place_controls(chip, a, b, c as u16 + d as u16 * 256));
-    }
-    if call == 4 {
-        return judged(calls::late_byte(chip, a));
-    }
-    if call == 5 {
-        return plain(calls::border_compares(chip));
-    }
-    if call == 6 {
-        return displayed(chip, a, b, c, d);
+    if call < 7 {
+        return stepped(chip, memories, bank, step_of(call, a, b, c, d));
     }
     if call == 7 {
         return valued(calls::read_register(chip, a as u16, b, c) as u16, chip);
