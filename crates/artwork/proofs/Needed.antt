@@ -20,6 +20,7 @@ use Rattle.sprites.specs.Sprites as Sprites
 use Rattle.sprites.specs.Fine.{fineTest}
 use Rattle.arbitration.specs.Bus as Buses
 use Rattle.rows.specs.declared.Pending.the-variants.{Nothing}
+use Rattle.rows.specs.Pending.{waits}
 use Rattle.side.specs.declared.Side.{Side}
 use Rattle.raster.specs.Frame as Frames
 use Rattle.rows.specs.Rows as Rows
@@ -49,7 +50,7 @@ chipForced forced cycle raster =
         sprites = Sprites.allFresh;
         bus = Buses.fresh;
         rows = Rows.fresh;
-        pending = Nothing;
+        pending = waits Nothing;
         changed = false;
       };
       picture = record {

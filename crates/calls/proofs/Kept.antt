@@ -81,4 +81,4 @@ module _ (c : Chip) where
 
   pub late-kept : (byte : ℕ) → accepted c ≡ true → accepted (lateTaken c byte .chip) ≡ true
   unfolding lateTaken
-  late-kept byte e = either (λ (a : Answer). accepted (a .chip) ≡ true) (accepted c) (late-at-kept byte (c .side .pending) e) e
+  late-kept byte e = either (λ (a : Answer). accepted (a .chip) ≡ true) (accepted c) (late-at-kept byte (c .side .pending .place) e) e

@@ -35,16 +35,16 @@ module _ (c : Chip) where
     unfolding lateTaken
     not-late t = simp (sym e ∙ not-true fine t)
 
-    pub late-none : not fine ≡ false → c .side .pending ≡ Nothing → answer 0 c ≡ lateTaken c byte
+    pub late-none : not fine ≡ false → c .side .pending .place ≡ Nothing → answer 0 c ≡ lateTaken c byte
     unfolding lateTaken
     late-none t p = simp (p, sym e ∙ not-false fine t)
 
-    pub late-small : {place : ℕ} → not fine ≡ false → c .side .pending ≡ At place → place < 40
+    pub late-small : {place : ℕ} → not fine ≡ false → c .side .pending .place ≡ At place → place < 40
     late-small t p =
-        let small : Pends (c .side .pending) = place-fine-pends (c .side .pending) (accepted-place c (sym e ∙ not-false fine t)) in
+        let small : Pends (c .side .pending .place) = place-fine-pends (c .side .pending .place) (accepted-place c (sym e ∙ not-false fine t)) in
         rw p at small
 
-    pub late-filled : {place : ℕ} {filled : Chip} → not fine ≡ false → c .side .pending ≡ At place → filled ≡ lateAt c byte (At place)
+    pub late-filled : {place : ℕ} {filled : Chip} → not fine ≡ false → c .side .pending .place ≡ At place → filled ≡ lateAt c byte (At place)
         → answer 0 filled ≡ lateTaken c byte
     unfolding lateTaken
     late-filled t p filled = simp (filled, p, sym e ∙ not-false fine t)

@@ -13,6 +13,7 @@ use Rattle.border.specs.Border.{compared}
 use Rattle.sprites.specs.Sprites.{expandWritten}
 use Rattle.rows.specs.declared.Pending.{Pending}
 use Rattle.rows.specs.declared.Pending.the-variants.{Nothing, At}
+use Rattle.rows.specs.Pending.{waits}
 use Rattle.side.specs.declared.Side.{Side}
 use Rattle.side.specs.Set.{irq≔, border≔, sprites≔, rows≔, pending≔}
 use Rattle.rows.specs.Set.{display≔, transition≔, access≔}
@@ -83,7 +84,7 @@ module _ {a b : Chip} (e : Level a b) where
 
   late-at : (v w : ℕ) (p : Pending) → Level (lateAt a v p) (lateAt b w p)
   late-at v w Nothing = e
-  late-at v w (At p) = record { side = ap (pending≔ Nothing) (e .side); registers = e .registers }
+  late-at v w (At p) = record { side = ap (pending≔ (waits Nothing)) (e .side); registers = e .registers }
 
   pub late-level : (v w : ℕ) → accepted a ≡ true → accepted b ≡ true → LevelAnswers (lateTaken a v) (lateTaken b w)
   unfolding lateTaken
@@ -91,7 +92,7 @@ module _ {a b : Chip} (e : Level a b) where
       rw (f, g)
       (record {
         refused = refl;
-        chip = subst (λ (p : Pending). Level (lateAt a v (a .side .pending)) (lateAt b w p)) (ap (λ (s : Side). s .pending) (e .side)) (late-at v w (a .side .pending));
+        chip = subst (λ (p : Pending). Level (lateAt a v (a .side .pending .place)) (lateAt b w p)) (ap (λ (s : Side). s .pending .place) (e .side)) (late-at v w (a .side .pending .place));
       })
 
   -- the questions

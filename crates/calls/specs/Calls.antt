@@ -14,6 +14,7 @@ use Rattle.sprites.specs.Sprites.{expandWritten}
 use Rattle.arbitration.specs.Bus.{phi1High}
 use Rattle.rows.specs.declared.Pending.{Pending}
 use Rattle.rows.specs.declared.Pending.the-variants.{Nothing, At}
+use Rattle.rows.specs.Pending.{waits}
 use Rattle.access.specs.Matrix.{lateWord}
 use Rattle.side.specs.Set.{irq≔, border≔, sprites≔, rows≔, pending≔}
 use Rattle.rows.specs.Set.{display≔, transition≔, access≔}
@@ -61,11 +62,11 @@ displayPlaced c display transition access changing forced =
 abbrev pub lateAt : Chip → ℕ → Pending → Chip
 lateAt c byte Nothing = c
 lateAt c byte (At p) =
-    side≔ (pending≔ Nothing (c .side)) (picture≔ (matrix≔ (set (c .picture .matrix) p (lateWord byte)) (c .picture)) c)
+    side≔ (pending≔ (waits Nothing) (c .side)) (picture≔ (matrix≔ (set (c .picture .matrix) p (lateWord byte)) (c .picture)) c)
 
 -- 01, Numbers: 3 where the state is not accepted
 unfoldable pub lateTaken : Chip → ℕ → Answer
-lateTaken c byte = cond (accepted c) (answer 0 (lateAt c byte (c .side .pending))) (answer 3 c)
+lateTaken c byte = cond (accepted c) (answer 0 (lateAt c byte (c .side .pending .place))) (answer 3 c)
 
 -- 01, Arbitration
 unfoldable pub phi1 : Chip → Bool

@@ -9,7 +9,7 @@ use chip::Answer;
 use chip::Chip;
 use picture::Pen;
 use rows::Pending;
-use side::Side;
+use rows::Waits;
 
 pub fn read_register(chip: Chip, addr: u16, penx: u8, peny: u8) -> u8
     ensures { λ r. ⌜ r ≡ registerRead chip addr penx peny ⌝ }
@@ -130,28 +130,14 @@ fn fill_late(mut chip: Chip, place: u8, byte: u8) -> Chip
     requires { ⌜ place < 40 ⌝ }
     ensures { λ r. ⌜ r ≡ lateAt chip byte (Pending.At place) ⌝ }
 {
-    let side0 = chip.side;
+    let mut side = chip.side;
     let mut picture = chip.picture;
     let at = place as usize;
     picture.matrix[at] = access::late_word(byte);
-    let irq = side0.irq;
-    let beam = side0.beam;
-    let frame = side0.frame;
-    let border = side0.border;
-    let sprites = side0.sprites;
-    let bus = side0.bus;
-    let rows = side0.rows;
-    let side = Side {
-        irq: irq,
-        beam: beam,
-        frame: frame,
-        border: border,
-        sprites: sprites,
-        bus: bus,
-        rows: rows,
-        pending: Pending::Nothing,
-        changed: side0.changed,
+    let none = Waits {
+        place: Pending::Nothing,
     };
+    side.pending = none;
     chip.side = side;
     chip.picture = picture;
     chip
@@ -169,7 +155,8 @@ pub fn late_byte(chip: Chip, byte: u8) -> Answer
         };
     }
     let side = chip.side;
-    let pending = side.pending;
+    let waits = side.pending;
+    let pending = waits.place;
     match pending {
         Pending::Nothing => Answer {
             refused: 0,

@@ -56,6 +56,6 @@ module _ (c : Chip) (e : accepted c ≡ true) where
   unfolding accepted
   accepted-clock = unless (clockFine (c .side .bus .clock)) (accepted c) (λ h. simp (h, and-false)) e
 
-  pub accepted-place : placeFine (c .side .pending) ≡ true
+  pub accepted-place : placeFine (c .side .pending .place) ≡ true
   unfolding accepted
-  accepted-place = unless (placeFine (c .side .pending)) (accepted c) (λ h. simp (h, and-false)) e
+  accepted-place = unless (placeFine (c .side .pending .place)) (accepted c) (λ h. simp (h, and-false)) e

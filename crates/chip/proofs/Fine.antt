@@ -42,7 +42,7 @@ accepted-fine c e =
           vmli = at-most (s .rows .vmli) (vmliLimit (s .beam .cycle)) (λ h. simp (h, and-false));
         };
         sprites = fine-test-fine (holds (fineTest 8 (s .sprites)) (λ h. simp (h, and-false)));
-        place = place-fine-pends (s .pending) (accepted-place c e);
+        place = place-fine-pends (s .pending .place) (accepted-place c e);
         clock = clock-fine-range (s .bus .clock) (accepted-clock c e);
       };
       compare = at-most (c .regs .compare) 511 (λ h. simp (h, and-false));

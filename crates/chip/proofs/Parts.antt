@@ -28,7 +28,7 @@ pub tested : (c : Chip) {counted eight placed clocked forced : Bool} {limit vmli
     → counted ≡ aecFine (c .side .bus .aec)
     → clocked ≡ clockFine (c .side .bus .clock)
     → forced ≡ clockFine (c .picture .pen .forced)
-    → placed ≡ placeFine (c .side .pending)
+    → placed ≡ placeFine (c .side .pending .place)
     → eight ≡ fineTest 8 (c .side .sprites)
     → limit ≡ vmliLimit (c .side .beam .cycle)
     → vmli ≡ c .side .rows .vmli

@@ -38,6 +38,6 @@ accepted c =
     && leb (s .rows .rc) 7
     && leb (s .rows .vmli) (vmliLimit (s .beam .cycle))
     && fineTest 8 (s .sprites)
-    && placeFine (s .pending)
+    && placeFine (s .pending .place)
     && clockFine (s .bus .clock)
     && clockFine (c .picture .pen .forced)

@@ -99,11 +99,12 @@ pub fn is_accepted(chip: Chip) -> bool
     let bus = side.bus;
     let sprites = side.sprites;
     let pending = side.pending;
+    let place = pending.place;
     let pen = picture.pen;
     let counted = aec_fine(bus.aec);
     let clocked = clock_fine(bus.clock);
     let forced = clock_fine(pen.forced);
-    let placed = place_fine(pending);
+    let placed = place_fine(place);
     let eight = sprites.fine();
     let limit = vmli_limit(beam.cycle);
     let vmli = laws::wide(rows.vmli);

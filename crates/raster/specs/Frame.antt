@@ -6,7 +6,7 @@ use Rattle.laws.specs.Pick.{pick}
 use Rattle.registers.specs.declared.Irq.{Irq}
 use Rattle.registers.specs.Irq.{triggered}
 use Rattle.schedule.specs.Diagram.{happens, lineBegins, frameEnds}
-use Rattle.timing.specs.Beam.{nextLine, atLastLine}
+use Rattle.timing.specs.Beam.{nextLine, atLastLine, latched}
 use Rattle.raster.specs.declared.Frame.{Frame}
 use Rattle.raster.specs.declared.Swept.{Swept}
 use Rattle.raster.specs.Set.{ending≔, matched≔}
@@ -37,8 +37,8 @@ unfoldable pub frameEnded : Frame → Bool → Frame
 frameEnded f wraps = cond wraps (ending≔ false f) f
 
 -- what the line and the frame do in a cycle, and what the rest of the tick reads of it
-unfoldable pub swept : Frame → Irq → ℕ → ℕ → ℕ → Swept
-swept f i cycle before compare =
+unfoldable pub swept : Frame → Irq → ℕ → ℕ → ℕ → Bool → Bool → Swept
+swept f i cycle before compare den latch =
     -- tick 3: a line begins
     let begins = happens lineBegins cycle in
     let line = rasterBegun begins before in
@@ -50,6 +50,9 @@ swept f i cycle before compare =
       line = line;
       wraps = wraps;
       raster = pick wraps 0 line;
+      -- tick 3 and 4: the DEN latch that the bad line goes by, and off with the frame's end
+      latch = latched begins line den latch;
+      kept = latched begins line den latch && not wraps;
       frame = frameEnded begun wraps;
       -- tick 3 and 4: at the frame's end without a look at the match
       irq = raised i (matchRaises (begun .matched) (f .matched) || (wraps && eqb compare 0));

@@ -10,12 +10,14 @@ pub struct Frame {
     pub matched: bool,
 }
 
-// What the line and the frame do in a cycle, and the line before a frame's end.
+// What the line and the frame do in a cycle: the line and the DEN latch before a frame's end, and after it.
 pub struct Swept {
     pub begins: bool,
     pub line: u16,
     pub wraps: bool,
     pub raster: u16,
+    pub latch: bool,
+    pub kept: bool,
     pub frame: Frame,
     pub irq: Irq,
 }
@@ -80,8 +82,16 @@ impl Frame {
 }
 
 // A line begins, and a frame ends.
-fn sweep(frame: Frame, irq: Irq, cycle: u16, raster: u16, compare: u16) -> Swept
-    ensures { λ r. ⌜ r ≡ swept frame irq cycle raster compare ⌝ }
+fn sweep(
+    frame: Frame,
+    irq: Irq,
+    cycle: u16,
+    raster: u16,
+    compare: u16,
+    den: bool,
+    latch: bool,
+) -> Swept
+    ensures { λ r. ⌜ r ≡ swept frame irq cycle raster compare den latch ⌝ }
 {
     let begins = schedule::line_begins(cycle);
     let last = begins & timing::at_last_line(raster);
@@ -89,6 +99,7 @@ fn sweep(frame: Frame, irq: Irq, cycle: u16, raster: u16, compare: u16) -> Swept
     let begun = frame.begin(begins, last, line, compare);
     let wraps = schedule::frame_ends(cycle) & begun.ending;
     let shown = laws::pick16(wraps, 0, line);
+    let latched = timing::latched(begins, line, den, latch);
     let ended = begun.end(wraps);
     let equal = match_raises(begun.matched, frame.matched);
     let told = raise(irq, equal | (wraps & (compare == 0)));
@@ -97,26 +108,39 @@ fn sweep(frame: Frame, irq: Irq, cycle: u16, raster: u16, compare: u16) -> Swept
         line: line,
         wraps: wraps,
         raster: shown,
+        latch: latched,
+        kept: latched & !wraps,
         frame: ended,
         irq: told,
     }
 }
 
 // Past the second cycle neither happens.
-pub fn turn(frame: Frame, irq: Irq, cycle: u16, raster: u16, compare: u16) -> Swept
+pub fn turn(
+    frame: Frame,
+    irq: Irq,
+    cycle: u16,
+    raster: u16,
+    compare: u16,
+    den: bool,
+    latch: bool,
+) -> Swept
     requires { ⌜ cycle < 64 ⌝ }
-    ensures { λ r. ⌜ r ≡ swept frame irq cycle raster compare ⌝ }
+    ensures { λ r. ⌜ r ≡ swept frame irq cycle raster compare den latch ⌝ }
 {
     let later = schedule::later(cycle);
     if later {
+        let latched = timing::latched(false, raster, den, latch);
         return Swept {
             begins: false,
             line: raster,
             wraps: false,
             raster: raster,
+            latch: latched,
+            kept: latched,
             frame: frame,
             irq: irq,
         };
     }
-    sweep(frame, irq, cycle, raster, compare)
+    sweep(frame, irq, cycle, raster, compare, den, latch)
 }

@@ -7,7 +7,7 @@ use borrow.Author.Tests.{not-true, not-false}
 use Rattle.laws.proofs.Choice.{either, picks}
 use Rattle.schedule.specs.Kind.{lastCycle}
 use Rattle.schedule.specs.Diagram.{happens, firstOf, characterAccess, vmliCounts}
-use Rattle.rows.specs.declared.Pending.{Pending}
+use Rattle.rows.specs.declared.Waits.{Waits}
 use Rattle.rows.specs.Pending.{placeOf, pendingAfter, Pends}
 use Rattle.rows.specs.Rows.{vcAfter, vmliAfter}
 use Rattle.rows.specs.Fine.{vmliLimit}
@@ -17,12 +17,12 @@ unfolding placeOf
 place-small v = omega arith
 
 -- and so is the place that is pending, if there is one
-pub pending-small : (missed : Bool) (vmli : ℕ) (old : Pending) → Pends old → Pends (pendingAfter missed vmli old)
+pub pending-small : (missed : Bool) (vmli : ℕ) (old : Waits) → Pends (old .place) → Pends (pendingAfter missed vmli old .place)
 unfolding pendingAfter
-pending-small missed vmli old h = either Pends missed (place-small vmli) h
+pending-small missed vmli old h = either (λ (w : Waits). Pends (w .place)) missed (place-small vmli) h
 
 -- nothing missed
-pub none-missed : (vmli : ℕ) (old : Pending) → old ≡ pendingAfter false vmli old
+pub none-missed : (vmli : ℕ) (old : Waits) → old ≡ pendingAfter false vmli old
 unfolding pendingAfter
 none-missed vmli old = refl
 

@@ -1,7 +1,9 @@
 -- A record with one field changed: the only place that lists every field. Written by tools/setters.
 use Prim.Native.Nat.{ℕ}
 use mathlib.Core.Bool.{Bool}
+use Rattle.rows.specs.declared.Pending.{Pending}
 use Rattle.rows.specs.declared.Rows.{Rows}
+use Rattle.rows.specs.declared.Waits.{Waits}
 
 abbrev pub vc≔ : ℕ → Rows → Rows
 vc≔ v r = record { vc = v; vcbase = r .vcbase; rc = r .rc; vmli = r .vmli; display = r .display; transition = r .transition; access = r .access }
@@ -23,3 +25,6 @@ transition≔ v r = record { vc = r .vc; vcbase = r .vcbase; rc = r .rc; vmli = 
 
 abbrev pub access≔ : Bool → Rows → Rows
 access≔ v r = record { vc = r .vc; vcbase = r .vcbase; rc = r .rc; vmli = r .vmli; display = r .display; transition = r .transition; access = v }
+
+abbrev pub place≔ : Pending → Waits → Waits
+place≔ v r = record { place = v }

@@ -3,7 +3,7 @@ ghost use mathlib.Core.Path.{_≡_};
 ghost use mathlib.Core.Bool.{Bool};
 ghost use Prim.Native.Nat.{_<_};
 ghost use Rattle.schedule.specs.Diagram.{happens, graphicsAccess};
-ghost use Rattle.rows.specs.Pending.{placeOf, pendingAfter};
+ghost use Rattle.rows.specs.Pending.{placeOf, waits, pendingAfter};
 ghost use Rattle.rows.specs.Rows.{fresh, vcAfter, vmliAfter, rcAfter, accessAfter, displayAfter, rowed, rowsLater};
 
 // The row counters and the states of the display logic.
@@ -37,6 +37,11 @@ pub enum Pending {
     At(u8),
 }
 
+// What waits for the CPU's byte, in a record of its own: a place that comes or goes is then no new side.
+pub struct Waits {
+    pub place: Pending,
+}
+
 // The place of the matrix line for a count of VMLI.
 pub fn place(vmli: u8) -> u8
     ensures { λ r. ⌜ r ≡ placeOf vmli ⌝ }
@@ -44,12 +49,20 @@ pub fn place(vmli: u8) -> u8
     if vmli < 40 { vmli } else { vmli % 40 }
 }
 
+fn waits_at(place: u8) -> Waits
+    ensures { λ r. ⌜ r ≡ waits (Pending.At place) ⌝ }
+{
+    Waits {
+        place: Pending::At(place),
+    }
+}
+
 // An access that finds the bus still the CPU's makes its place pending, in place of an earlier one.
-pub fn next_pending(missed: bool, vmli: u8, old: Pending) -> Pending
+pub fn next_pending(missed: bool, vmli: u8, old: Waits) -> Waits
     ensures { λ r. ⌜ r ≡ pendingAfter missed vmli old ⌝ }
 {
     if missed {
-        return Pending::At(place(vmli));
+        return waits_at(place(vmli));
     }
     old
 }

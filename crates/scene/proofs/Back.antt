@@ -7,9 +7,10 @@ use borrow.Author.Tests.{lt-ltb}
 use Rattle.sprites.specs.declared.Sprite.{Sprite}
 use Rattle.sprites.specs.Set.{each≔}
 use Rattle.sprites.specs.Sprites.{spriteAt, none}
+use Rattle.rows.specs.Pending.{waits}
 use Rattle.chip.specs.declared.Chip.{Chip}
-use Rattle.scene.specs.Numbers.{byteAt, flagAt, pendingOf}
-use Rattle.scene.specs.Decode.{beamAt, registersAt, irqAt, borderAt, spritesAt, pointersAt, wordsAt, spriteBytesAt, rowsAt, busAt, frameAt, penAt, matrixAt, sideAt, pictureAt, chipAt, fieldsFine}
+use Rattle.scene.specs.Numbers.{flagAt}
+use Rattle.scene.specs.Decode.{beamAt, registersAt, irqAt, borderAt, spritesAt, pointersAt, wordsAt, spriteBytesAt, rowsAt, busAt, frameAt, penAt, matrixAt, waitsAt, sideAt, pictureAt, chipAt, fieldsFine}
 use Rattle.scene.specs.Encode.{encoded}
 use Rattle.scene.specs.Saved.{Saved}
 use Rattle.scene.proofs.Numbers.{word-back, flag-back, long-back, clock-back, count-back, flag-fine, place-back, place-fine}
@@ -71,9 +72,9 @@ module _ (c : Chip) (s : Saved c) where
   unfolding encoded matrixAt
   matrix = simp word-back (listed 0 (c .picture .matrix) 40 (s .matrix))
 
-  place : pendingOf (byteAt (encoded c) 307) ≡ c .side .pending
+  pending : waitsAt (encoded c) ≡ c .side .pending
   unfolding encoded
-  place = place-back (c .side .pending) (s .place)
+  pending = ap waits (place-back (c .side .pending .place) (s .place))
 
   changed : flagAt (encoded c) 259 ≡ c .side .changed
   unfolding encoded
@@ -90,7 +91,7 @@ module _ (c : Chip) (s : Saved c) where
         sprites = sprites i;
         bus = bus i;
         rows = rows i;
-        pending = place i;
+        pending = pending i;
         changed = changed i;
       }
 
@@ -102,7 +103,7 @@ module _ (c : Chip) (s : Saved c) where
 
   pub fields-fine : fieldsFine (encoded c) ≡ true
   unfolding encoded
-  fields-fine = simp (flag-fine, lt-ltb (c .picture .pen .mode) 8 (s .mode), lt-ltb (c .picture .pen .old) 8 (s .old), place-fine (c .side .pending) (s .place))
+  fields-fine = simp (flag-fine, lt-ltb (c .picture .pen .mode) 8 (s .mode), lt-ltb (c .picture .pen .old) 8 (s .old), place-fine (c .side .pending .place) (s .place))
 
   pub all-bytes : length (encoded c) ≡ 308
   unfolding encoded

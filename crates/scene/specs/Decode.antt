@@ -13,6 +13,8 @@ use Rattle.sprites.specs.declared.Sprites.{Sprites}
 use Rattle.arbitration.specs.declared.Bus.{Bus}
 use Rattle.raster.specs.declared.Frame.{Frame}
 use Rattle.rows.specs.declared.Rows.{Rows}
+use Rattle.rows.specs.declared.Waits.{Waits}
+use Rattle.rows.specs.Pending.{waits}
 use Rattle.side.specs.declared.Side.{Side}
 use Rattle.picture.specs.declared.Pen.{Pen}
 use Rattle.chip.specs.declared.Picture.{Picture}
@@ -165,6 +167,9 @@ penAt s =
       forced = clockAt s 291;
     }
 
+abbrev pub waitsAt : List ℕ → Waits
+waitsAt s = waits (pendingOf (byteAt s 307))
+
 abbrev pub sideAt : List ℕ → Side
 sideAt s =
     record {
@@ -175,7 +180,7 @@ sideAt s =
       sprites = spritesAt s;
       bus = busAt s;
       rows = rowsAt s;
-      pending = pendingOf (byteAt s 307);
+      pending = waitsAt s;
       changed = flagAt s 259;
     }
 

@@ -96,7 +96,7 @@ encoded c =
     ++ entryBytes (c .picture .matrix) 40
     ++ restOf (c .side) (c .picture .pen)
     ++ clocksBytes (c .side .bus) (c .picture .pen .forced)
-    ++ (placeByte (c .side .pending) ∷ [])
+    ++ (placeByte (c .side .pending .place) ∷ [])
 
 -- How a part is written: it stands from `at` to `end` behind what was there, and the whole is as long as before. What lies behind `end` is left open.
 pub record Put (before after : List ℕ) (at end : ℕ) (part : List ℕ) : Type 0 where

@@ -14,7 +14,7 @@ use Rattle.scene.specs.Numbers.{byteAt}
 pub record Saved (c : Chip) : Type 0 where
   pub mode : c .picture .pen .mode < 8
   pub old : c .picture .pen .old < 8
-  pub place : Pends (c .side .pending)
+  pub place : Pends (c .side .pending .place)
   pub mx : length (c .regs .mx) ≡ 8
   pub my : length (c .regs .my) ≡ 8
   pub cols : length (c .regs .cols) ≡ 8

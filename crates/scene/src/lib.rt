@@ -6,7 +6,7 @@ ghost use Prim.Native.Nat.{_+_, _*_, _/_, _%_, _≤_, _<_};
 ghost use lib.ListN.{length};
 ghost use Rattle.laws.specs.Bytes.{lowByte, highByte};
 ghost use Rattle.scene.specs.Numbers.{bits, clockOf, countByte, aecOf, placeByte, pendingOf, wordAt, longAt, clockAt};
-ghost use Rattle.scene.specs.Decode.{eightAt, beamAt, registersAt, irqAt, borderAt, spriteFrom, spritesAt, pointersAt, wordsAt, spriteBytesAt, matrixAt, rowsAt, busAt, frameAt, penAt, sideAt, pictureAt, chipAt, headFine, earlyFlags, spriteFlags, lateFlags, rangesFine, fieldsFine, noScene, decodedFields, decoded};
+ghost use Rattle.scene.specs.Decode.{eightAt, beamAt, registersAt, irqAt, borderAt, spriteFrom, spritesAt, pointersAt, wordsAt, spriteBytesAt, matrixAt, rowsAt, busAt, frameAt, penAt, waitsAt, sideAt, pictureAt, chipAt, headFine, earlyFlags, spriteFlags, lateFlags, rangesFine, fieldsFine, noScene, decodedFields, decoded};
 ghost use Rattle.scene.specs.Encode.{headBytes, registerBytes, maskBytes, spriteBytes, spriteRow, spriteRows, entryBytes, restOf, clockBytes, clocksBytes, restBytes, encoded, Put};
 use arbitration::Bus;
 use border::Border;
@@ -18,6 +18,7 @@ use registers::Irq;
 use registers::Registers;
 use rows::Pending;
 use rows::Rows;
+use rows::Waits;
 use side::Side;
 use sprites::Sprite;
 use sprites::Sprites;
@@ -375,6 +376,15 @@ fn pen_at(bytes: &[u8]) -> Pen
     }
 }
 
+fn waits_at(bytes: &[u8]) -> Waits
+    requires { ⌜ length (now bytes) ≡ 308 ⌝ }
+    ensures { λ r. ⌜ r ≡ waitsAt (now (bytes .entry)) ⌝ }
+{
+    Waits {
+        place: place_of(bytes[307]),
+    }
+}
+
 fn side_at(bytes: &[u8]) -> Side
     requires { ⌜ length (now bytes) ≡ 308 ⌝ }
     ensures { λ r. ⌜ r ≡ sideAt (now (bytes .entry)) ⌝ }
@@ -387,7 +397,7 @@ fn side_at(bytes: &[u8]) -> Side
         sprites: sprites_at(bytes),
         bus: bus_at(bytes),
         rows: rows_at(bytes),
-        pending: place_of(bytes[307]),
+        pending: waits_at(bytes),
         changed: bytes[259] == 1,
     }
 }
@@ -843,7 +853,8 @@ fn fill(chip: Chip, out: &mut [u8])
     let border = side.border;
     let sprites = side.sprites;
     let bus = side.bus;
-    let pending = side.pending;
+    let waits = side.pending;
+    let pending = waits.place;
     let pen = picture.pen;
     let matrix = picture.matrix;
     put_head(out, beam);

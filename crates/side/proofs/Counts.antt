@@ -105,7 +105,7 @@ quiet-turn g s e =
     let cycle = nextCycle (s .beam .cycle) in
     let m = on-line s (g .yscroll) e in
     let l = lit cycle (m .graphics) in
-    lit-glue g s l refl refl (border-past cycle (s .beam .raster) (g .den) (g .csel) (s .border) l (m .past))
+    lit-glue g s l refl refl refl (border-past cycle (s .beam .raster) (g .den) (g .csel) (s .border) l (m .past))
     (sprites-mid cycle (s .beam .raster) (g .my) (g .enable) (g .yexp) (s .sprites) l m) (beam-moved (s .beam) cycle (g .den) (g .rsel) (g .yscroll) (e .bad))
     (matrix-alone true (s .sprites .dma) cycle (m .asks)) (free-bus (s .bus) (e .balow)) refl refl
     (rows-mid cycle (s .rows) l m (e .transition) (e .access)) (none-missed _ (s .pending))

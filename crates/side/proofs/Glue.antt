@@ -18,7 +18,7 @@ use Rattle.sprites.specs.Sprites.{spriteAt}
 use Rattle.arbitration.specs.declared.Bus.{Bus}
 use Rattle.arbitration.specs.Bus.{clocked, requested, arbitrated}
 use Rattle.rows.specs.declared.Rowed.{Rowed}
-use Rattle.rows.specs.declared.Pending.{Pending}
+use Rattle.rows.specs.declared.Waits.{Waits}
 use Rattle.rows.specs.Rows.{rowed}
 use Rattle.rows.specs.Pending.{pendingAfter}
 use Rattle.side.specs.declared.Side.{Side}
@@ -26,13 +26,13 @@ use Rattle.side.specs.declared.Turned.{Turned}
 use Rattle.side.specs.Phases.{bordered, phased, slotMoved}
 use Rattle.side.specs.Turn.{turned}
 
-pub turn-glue : (g : Controls) (s : Side) {clk bus : Bus} {cycle k : ℕ} {asked mask after low pointing fetching : Bool} {sweep : Swept} {beam : Beam} {border : Border} {ph spr : Sprites} {sprite : Sprite} {now : Rowed} {pending : Pending}
+pub turn-glue : (g : Controls) (s : Side) {clk bus : Bus} {cycle k : ℕ} {asked mask after low pointing fetching : Bool} {sweep : Swept} {beam : Beam} {border : Border} {ph spr : Sprites} {sprite : Sprite} {now : Rowed} {pending : Waits}
     → clk ≡ clocked 1 (s .bus)
     → cycle ≡ nextCycle (s .beam .cycle)
-    → sweep ≡ swept (s .frame) (s .irq) cycle (s .beam .raster) (g .compare)
+    → sweep ≡ swept (s .frame) (s .irq) cycle (s .beam .raster) (g .compare) (g .den) (s .beam .latch)
     → border ≡ bordered cycle (sweep .raster) (g .den) (g .csel) (s .border)
     → ph ≡ phased cycle (sweep .raster) (g .my) (g .enable) (g .yexp) (s .sprites)
-    → beam ≡ beamTurned (s .beam) cycle (sweep .begins) (sweep .line) (sweep .wraps) (sweep .raster) (g .den) (g .rsel) (g .yscroll)
+    → beam ≡ beamTurned (s .beam) cycle (sweep .line) (sweep .latch) (sweep .kept) (sweep .raster) (g .den) (g .rsel) (g .yscroll)
     → asked ≡ requested (beam .ba) (ph .dma) cycle
     → bus ≡ arbitrated clk asked
     → k ≡ slotSprite cycle

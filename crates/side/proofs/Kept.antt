@@ -65,7 +65,7 @@ module _ (g : Controls) (s : Side) where
       record {
         first = subst (λ (n : ℕ). 1 ≤ n) (sym side-cycle) (cycle-low (s .beam .cycle));
         last = subst (λ (n : ℕ). n ≤ lastCycle) (sym side-cycle) (cycle-high (s .beam .cycle));
-        raster = subst (λ (n : ℕ). n ≤ lastLine) (sym (turned-raster (s .beam) _ _ _ _ _ _ _ _)) (raster-kept (s .frame) (s .irq) _ (s .beam .raster) _ (h .raster));
+        raster = subst (λ (n : ℕ). n ≤ lastLine) (sym (turned-raster (s .beam) _ _ _ _ _ _ _ _)) (raster-kept (s .frame) (s .irq) _ (s .beam .raster) _ _ _ (h .raster));
         aec = bus-aec (s .bus) _ (h .aec);
         rows = subst (λ (n : ℕ). FineRows n (turned g s .side .rows)) (sym side-cycle) (rows-kept (s .beam .cycle) _ _ _ (s .rows) (h .last) (h .rows));
         sprites = slot-kept _ _ (phased-kept _ _ _ _ _ (h .sprites));
@@ -82,7 +82,7 @@ pub side-same : {s t : Side}
     → t .rows .rc ≡ s .rows .rc
     → t .rows .vmli ≡ s .rows .vmli
     → FineSprites (t .sprites)
-    → Pends (t .pending)
+    → Pends (t .pending .place)
     → FineSide s
     → FineSide t
 side-same beam bus vc vcbase rc vmli sprites place h =

@@ -10,7 +10,7 @@ use Rattle.laws.proofs.Choice.{picks}
 use Rattle.schedule.proofs.Parts.{Lit, Past, Mid, Dark, Between, Calm}
 use Rattle.registers.specs.declared.Controls.{Controls}
 use Rattle.timing.specs.declared.Beam.{Beam}
-use Rattle.timing.specs.Beam.{nextCycle, beamTurned}
+use Rattle.timing.specs.Beam.{nextCycle, latched, beamTurned}
 use Rattle.timing.proofs.Kept.{cycle-high}
 use Rattle.raster.proofs.Laws.{swept-later}
 use Rattle.border.specs.declared.Border.{Border}
@@ -20,7 +20,7 @@ use Rattle.sprites.specs.Sprites.{spriteAt}
 use Rattle.arbitration.specs.declared.Bus.{Bus}
 use Rattle.arbitration.specs.Bus.{clocked, requested, arbitrated}
 use Rattle.rows.specs.declared.Rowed.{Rowed}
-use Rattle.rows.specs.declared.Pending.{Pending}
+use Rattle.rows.specs.declared.Waits.{Waits}
 use Rattle.rows.specs.Rows.{rowed}
 use Rattle.rows.specs.Pending.{pendingAfter}
 use Rattle.side.specs.declared.Side.{Side}
@@ -66,13 +66,14 @@ module _ (c raster : ℕ) (my : List ℕ) (enable yexp : ℕ) (s : Sprites) wher
   sprites-calm d m = rw (d .step, d .first, m .second, m .load)
 
 -- a turn with a graphics access: the line, the frame and the interrupt stay, and no slot is here
-pub lit-glue : (g : Controls) (s : Side) {clk bus : Bus} {cycle : ℕ} {asked mask : Bool} {beam : Beam} {border : Border} {ph : Sprites} {sprite : Sprite} {now : Rowed} {pending : Pending}
+pub lit-glue : (g : Controls) (s : Side) {clk bus : Bus} {cycle : ℕ} {latch asked mask : Bool} {beam : Beam} {border : Border} {ph : Sprites} {sprite : Sprite} {now : Rowed} {pending : Waits}
     → Lit cycle
     → clk ≡ clocked 1 (s .bus)
     → cycle ≡ nextCycle (s .beam .cycle)
+    → latch ≡ latched false (s .beam .raster) (g .den) (s .beam .latch)
     → border ≡ bordered cycle (s .beam .raster) (g .den) (g .csel) (s .border)
     → ph ≡ phased cycle (s .beam .raster) (g .my) (g .enable) (g .yexp) (s .sprites)
-    → beam ≡ beamTurned (s .beam) cycle false (s .beam .raster) false (s .beam .raster) (g .den) (g .rsel) (g .yscroll)
+    → beam ≡ beamTurned (s .beam) cycle (s .beam .raster) latch latch (s .beam .raster) (g .den) (g .rsel) (g .yscroll)
     → asked ≡ requested (beam .ba) (ph .dma) cycle
     → bus ≡ arbitrated clk asked
     → sprite ≡ spriteAt ph 0
@@ -114,5 +115,5 @@ pub lit-glue : (g : Controls) (s : Side) {clk bus : Bus} {cycle : ℕ} {asked ma
       };
     }) (turned g s)
 unfolding turned slotMoved
-lit-glue g s {bus = bus'} {cycle = cycle'} l clk cycle border ph beam asked bus sprite mask now pending =
-    rw (← clk, ← cycle, ← swept-later (s .frame) (s .irq) cycle' (s .beam .raster) (g .compare) (record { begins = l .begins; wraps = l .wraps }), ← border, ← ph, ← beam, ← asked, ← bus, l .sprite, l .pointing, l .fetching, l .after, ← sprite, ← mask, picks false (bus' .aeclow) (s .bus .aeclow), ← now, ← pending)
+lit-glue g s {bus = bus'} {cycle = cycle'} l clk cycle latch border ph beam asked bus sprite mask now pending =
+    rw (← clk, ← cycle, ← swept-later (s .frame) (s .irq) cycle' (s .beam .raster) (g .compare) (g .den) (s .beam .latch) (record { begins = l .begins; wraps = l .wraps }), ← latch, ← border, ← ph, ← beam, ← asked, ← bus, l .sprite, l .pointing, l .fetching, l .after, ← sprite, ← mask, picks false (bus' .aeclow) (s .bus .aeclow), ← now, ← pending)

@@ -15,5 +15,5 @@ pub record FineSide (s : Side) : Type 0 where
   pub aec : Counted (s .bus .aec)
   pub rows : FineRows (s .beam .cycle) (s .rows)
   pub sprites : FineSprites (s .sprites)
-  pub place : Pends (s .pending)
+  pub place : Pends (s .pending .place)
   pub clock : inRange (s .bus .clock)

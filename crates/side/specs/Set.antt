@@ -5,8 +5,8 @@ use Rattle.timing.specs.declared.Beam.{Beam}
 use Rattle.border.specs.declared.Border.{Border}
 use Rattle.sprites.specs.declared.Sprites.{Sprites}
 use Rattle.arbitration.specs.declared.Bus.{Bus}
-use Rattle.rows.specs.declared.Pending.{Pending}
 use Rattle.rows.specs.declared.Rows.{Rows}
+use Rattle.rows.specs.declared.Waits.{Waits}
 use Rattle.raster.specs.declared.Frame.{Frame}
 use Rattle.side.specs.declared.Side.{Side}
 
@@ -31,7 +31,7 @@ bus≔ v r = record { irq = r .irq; beam = r .beam; frame = r .frame; border = r
 abbrev pub rows≔ : Rows → Side → Side
 rows≔ v r = record { irq = r .irq; beam = r .beam; frame = r .frame; border = r .border; sprites = r .sprites; bus = r .bus; rows = v; pending = r .pending; changed = r .changed }
 
-abbrev pub pending≔ : Pending → Side → Side
+abbrev pub pending≔ : Waits → Side → Side
 pending≔ v r = record { irq = r .irq; beam = r .beam; frame = r .frame; border = r .border; sprites = r .sprites; bus = r .bus; rows = r .rows; pending = v; changed = r .changed }
 
 abbrev pub changed≔ : Bool → Side → Side

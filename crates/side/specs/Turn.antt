@@ -16,7 +16,7 @@ use Rattle.arbitration.specs.Bus.{clocked, requested, arbitrated}
 use Rattle.arbitration.specs.Bus as Buses
 use Rattle.rows.specs.Rows.{rowed}
 use Rattle.rows.specs.Rows as Rows
-use Rattle.rows.specs.Pending.{pendingAfter}
+use Rattle.rows.specs.Pending.{waits, pendingAfter}
 use Rattle.rows.specs.declared.Pending.the-variants.{Nothing}
 use Rattle.side.specs.declared.Side.{Side}
 use Rattle.side.specs.declared.Turned.{Turned}
@@ -33,7 +33,7 @@ freshSide =
       sprites = allFresh;
       bus = Buses.fresh;
       rows = Rows.fresh;
-      pending = Nothing;
+      pending = waits Nothing;
       changed = false;
     }
 
@@ -42,10 +42,10 @@ turned g s =
     -- tick 1: cycle +1
     let cycle = nextCycle (s .beam .cycle) in
     -- tick 3 and 4: a line begins, a frame ends
-    let sweep = swept (s .frame) (s .irq) cycle (s .beam .raster) (g .compare) in
+    let sweep = swept (s .frame) (s .irq) cycle (s .beam .raster) (g .compare) (g .den) (s .beam .latch) in
     let raster = sweep .raster in
-    -- tick 1 to 4: the beam, with the DEN latch and the live bad line
-    let beam = beamTurned (s .beam) cycle (sweep .begins) (sweep .line) (sweep .wraps) raster (g .den) (g .rsel) (g .yscroll) in
+    -- tick 1 to 4: the beam, with the live bad line
+    let beam = beamTurned (s .beam) cycle (sweep .line) (sweep .latch) (sweep .kept) raster (g .den) (g .rsel) (g .yscroll) in
     -- tick 3, 7, 8 and 9: the border's compares, the sprites' phases
     let border = bordered cycle raster (g .den) (g .csel) (s .border) in
     let sprites = phased cycle raster (g .my) (g .enable) (g .yexp) (s .sprites) in

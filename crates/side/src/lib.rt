@@ -16,6 +16,7 @@ use registers::Controls;
 use registers::Irq;
 use rows::Pending;
 use rows::Rows;
+use rows::Waits;
 use sprites::Sprites;
 use timing::Beam;
 
@@ -27,7 +28,7 @@ pub struct Side {
     pub sprites: Sprites,
     pub bus: Bus,
     pub rows: Rows,
-    pub pending: Pending,
+    pub pending: Waits,
     // the interrupt line as the last tick left it
     pub changed: bool,
 }
@@ -273,6 +274,9 @@ impl Side {
         let sprites = Sprites::new();
         let bus = Bus::new();
         let rows = Rows::new();
+        let pending = Waits {
+            place: Pending::Nothing,
+        };
         Side {
             irq: irq,
             beam: beam,
@@ -281,7 +285,7 @@ impl Side {
             sprites: sprites,
             bus: bus,
             rows: rows,
-            pending: Pending::Nothing,
+            pending: pending,
             changed: false,
         }
     }
@@ -312,13 +316,14 @@ pub fn turn_lit(side: Side, g: Controls) -> Turned
     let clocked = bus0.clocked(1);
     let cycle = timing::next_cycle(beam0.cycle);
     let raster = beam0.raster;
+    let latch = timing::latched(false, raster, g.den, beam0.latch);
     let border = border_lit(border0, cycle, raster, g.den, g.csel);
     let phased = sprites_lit(sprites0, cycle, raster, my, g.enable, g.yexp);
     let beam = beam0.turn(
         cycle,
-        false,
         raster,
-        false,
+        latch,
+        latch,
         raster,
         g.den,
         g.rsel,
@@ -384,7 +389,15 @@ pub fn turn_dark(side: Side, g: Controls) -> Turned
     let my = g.my;
     let clocked = bus0.clocked(1);
     let cycle = timing::next_cycle(beam0.cycle);
-    let swept = raster::turn(frame0, irq0, cycle, beam0.raster, g.compare);
+    let swept = raster::turn(
+        frame0,
+        irq0,
+        cycle,
+        beam0.raster,
+        g.compare,
+        g.den,
+        beam0.latch,
+    );
     let irq = swept.irq;
     let frame = swept.frame;
     let raster = swept.raster;
@@ -392,9 +405,9 @@ pub fn turn_dark(side: Side, g: Controls) -> Turned
     let phased = sprites_dark(sprites0, cycle, raster, my, g.enable, g.yexp);
     let beam = beam0.turn(
         cycle,
-        swept.begins,
         swept.line,
-        swept.wraps,
+        swept.latch,
+        swept.kept,
         raster,
         g.den,
         g.rsel,

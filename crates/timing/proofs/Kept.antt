@@ -5,7 +5,7 @@ use mathlib.Core.Bool.{Bool, true, false}
 use native.Mathlib.Omega.{arith}
 use borrow.Author.Tests.{ltb-true, lt-ltb, le-ltb}
 use lib.Dec.{ltb}
-use Rattle.laws.proofs.Choice.{either, by-test, and-true, picks}
+use Rattle.laws.proofs.Choice.{either, by-test, picks}
 use Rattle.schedule.specs.Kind.{lastCycle, lastLine}
 use Rattle.timing.specs.declared.Beam.{Beam}
 use Rattle.timing.specs.Set.{cycle≔, den≔, rsel≔, yscroll≔, bad≔, rising≔, ba≔}
@@ -31,12 +31,12 @@ pub line-high : (r : ℕ) → r ≤ lastLine → nextLine r ≤ lastLine
 unfolding nextLine
 line-high r h = by-test (λ (n : ℕ). n ≤ lastLine) (ltb r lastLine) (λ e. omega (arith, ltb-true r lastLine e)) (λ e. h)
 
-module _ (b : Beam) (cycle : ℕ) (begins : Bool) (line : ℕ) (wraps : Bool) (raster : ℕ) (den rsel : Bool) (yscroll : ℕ) where
-  pub turned-cycle : beamTurned b cycle begins line wraps raster den rsel yscroll .cycle ≡ cycle
+module _ (b : Beam) (cycle line : ℕ) (latch kept : Bool) (raster : ℕ) (den rsel : Bool) (yscroll : ℕ) where
+  pub turned-cycle : beamTurned b cycle line latch kept raster den rsel yscroll .cycle ≡ cycle
   unfolding beamTurned
   turned-cycle = refl
 
-  pub turned-raster : beamTurned b cycle begins line wraps raster den rsel yscroll .raster ≡ raster
+  pub turned-raster : beamTurned b cycle line latch kept raster den rsel yscroll .raster ≡ raster
   unfolding beamTurned
   turned-raster = refl
 
@@ -45,9 +45,9 @@ abbrev pub moved : Beam → ℕ → Bool → Bool → ℕ → Beam
 moved b cycle den rsel yscroll = cycle≔ cycle (den≔ den (rsel≔ rsel (yscroll≔ yscroll (bad≔ false (rising≔ false (ba≔ true b))))))
 
 pub beam-moved : (b : Beam) (cycle : ℕ) (den rsel : Bool) (yscroll : ℕ) → badLine (b .raster) yscroll (b .latch) ≡ false
-    → moved b cycle den rsel yscroll ≡ beamTurned b cycle false (b .raster) false (b .raster) den rsel yscroll
+    → moved b cycle den rsel yscroll ≡ beamTurned b cycle (b .raster) (latched false (b .raster) den (b .latch)) (latched false (b .raster) den (b .latch)) (b .raster) den rsel yscroll
 unfolding beamTurned latched baOutput
-beam-moved b cycle den rsel yscroll e = rw (picks false den (b .latch), and-true (b .latch), e)
+beam-moved b cycle den rsel yscroll e = rw (picks false den (b .latch), e)
 
 -- power-up is in the last cycle of the last line
 pub fresh-cycle : fresh .cycle ≡ lastCycle

@@ -36,9 +36,8 @@ fresh = record { cycle = lastCycle; raster = lastLine; den = false; rsel = false
 
 -- 01, tick 1 to 4: the cycle and the line, the control bits as latched, the live bad line with its rise, and the BA output.
 -- The bad line is that of the line and the latch before a frame's end, which puts the raster at 0 and the latch off.
-unfoldable pub beamTurned : Beam → ℕ → Bool → ℕ → Bool → ℕ → Bool → Bool → ℕ → Beam
-beamTurned b cycle begins line wraps raster den rsel yscroll =
-    let latch = latched begins line den (b .latch) in
+unfoldable pub beamTurned : Beam → ℕ → ℕ → Bool → Bool → ℕ → Bool → Bool → ℕ → Beam
+beamTurned b cycle line latch kept raster den rsel yscroll =
     let bad = badLine line yscroll latch in
     record {
       cycle = cycle;
@@ -46,7 +45,7 @@ beamTurned b cycle begins line wraps raster den rsel yscroll =
       den = den;
       rsel = rsel;
       yscroll = yscroll;
-      latch = latch && not wraps;
+      latch = kept;
       bad = bad;
       rising = bad && not (b .bad);
       ba = baOutput bad cycle;

@@ -25,7 +25,7 @@ pub fn bad_line(raster: u16, yscroll: u8, latch: bool) -> bool
 }
 
 // The DEN latch: line 0x30 stores DEN where it begins.
-fn latched(begins: bool, line: u16, den: bool, latch: bool) -> bool
+pub fn latched(begins: bool, line: u16, den: bool, latch: bool) -> bool
     ensures { λ r. ⌜ r ≡ latched begins line den latch ⌝ }
 {
     laws::pick_bool(begins & (line == 0x30), den, latch)
@@ -83,28 +83,27 @@ impl Beam {
         }
     }
 
-    // The beam after a tick: where it is, the control bits that the tick found, the latch, the bad line and its rise, and BA.
+    // The beam after a tick: where it is, the control bits that the tick found, the bad line by the tick's latch, its rise, BA, and the latch that stays.
     pub fn turn(
         mut self,
         cycle: u16,
-        begins: bool,
         line: u16,
-        wraps: bool,
+        latch: bool,
+        kept: bool,
         raster: u16,
         den: bool,
         rsel: bool,
         yscroll: u8,
     ) -> Self
-        ensures { λ r. ⌜ r ≡ beamTurned self cycle begins line wraps raster den rsel yscroll ⌝ }
+        ensures { λ r. ⌜ r ≡ beamTurned self cycle line latch kept raster den rsel yscroll ⌝ }
     {
-        let latch = latched(begins, line, den, self.latch);
         let bad = bad_line(line, yscroll, latch);
         self.cycle = cycle;
         self.raster = raster;
         self.den = den;
         self.rsel = rsel;
         self.yscroll = yscroll;
-        self.latch = latch & !wraps;
+        self.latch = kept;
         self.rising = bad & !self.bad;
         self.bad = bad;
         self.ba = ba_output(bad, cycle);

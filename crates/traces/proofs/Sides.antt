@@ -20,7 +20,7 @@ use Rattle.sprites.specs.Sprites as Sprites
 use Rattle.arbitration.specs.declared.Bus.{Bus}
 use Rattle.arbitration.specs.Bus as Buses
 use Rattle.arbitration.specs.Set.{clock≔, fall≔, rise≔, aec≔, balow≔}
-use Rattle.rows.specs.Pending.{pendingAfter}
+use Rattle.rows.specs.Pending.{waits, pendingAfter}
 use Rattle.rows.specs.declared.Pending.the-variants.{Nothing}
 use Rattle.rows.specs.declared.Rows.{Rows}
 use Rattle.side.specs.declared.Side.{Side}
@@ -85,7 +85,7 @@ past line flags latch border sprites bus rows =
       sprites = sprites;
       bus = bus;
       rows = rows;
-      pending = Nothing;
+      pending = waits Nothing;
       changed = false;
     }
 

@@ -12,7 +12,7 @@ element-write-picture : tie.Need-element-write-picture
 element-write-picture c = search needs
 
 returns : tie.Need-returns
-returns c = simp (c .before .before .before .before .before .before .before .late-word .ensures)
+returns c = simp (c .late-word .ensures)
 
 pub fill-late-spec : {M : Type 1} → statement M
 fill-late-spec = tie.close (tie.spec late-word-requires mul-picture element-write-picture returns)

@@ -19,21 +19,21 @@ enum-known-pending c = search needs
 
 fill-late-requires : tie.Need-fill-late-requires
 fill-late-requires c κs =
-    let left = c .before .before .before .before in
+    let left = c .before .before .before .before .before in
     let fine = left .before in
     let s = fine .before .args in
     late-small (s .chip) (s .byte) (fine .is-accepted .ensures) (left .if1 .left) (c .before .pending .given .1)
 
 returns-2 : tie.Need-returns-2
 returns-2 c =
-    let left = c .before .before .before in
+    let left = c .before .before .before .before in
     let fine = left .before in
     let s = fine .before .args in
     late-none (s .chip) (s .byte) (fine .is-accepted .ensures) (left .if1 .left) (c .enum-told .given .1)
 
 returns-3 : tie.Need-returns-3
 returns-3 c =
-    let left = c .before .before .before .before .before in
+    let left = c .before .before .before .before .before .before in
     let fine = left .before in
     let s = fine .before .args in
     late-filled (s .chip) (s .byte) (fine .is-accepted .ensures) (left .if1 .left) (c .before .before .pending .given .1) (c .fill-late .ensures)

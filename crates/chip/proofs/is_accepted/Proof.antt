@@ -32,7 +32,7 @@ returns c =
     let forced = place .before in
     let clock = forced .before .before in
     let aec = clock .before .before in
-    let chip = aec .before .before .before .before .before .before .before .before .before .before .args .chip in
+    let chip = aec .before .before .before .before .before .before .before .before .before .before .before .args .chip in
     tested chip
     (simp (back8 (chip .side .bus .aec) (aec .before .struct-told .given .1 .1 .1 .0 .1)) at (aec .aec-fine .ensures))
     (simp (back64 (chip .side .bus .clock) (aec .before .struct-told .given .0 .1)) at (clock .clock-fine .ensures))

@@ -21,6 +21,9 @@ frame-ends-requires c κs = search needs
 pick16-requires : tie.Need-pick16-requires
 pick16-requires c κs = search needs
 
+latched-requires : tie.Need-latched-requires
+latched-requires c κs = search needs
+
 end-requires : tie.Need-end-requires
 end-requires c κs = search needs
 
@@ -32,14 +35,15 @@ raise-requires c κs = search needs
 
 returns : tie.Need-returns
 returns c =
-    let start = c .before .before .before .before .before .before .before .before .before .before .args in
-    sweep-glue (start .frame) (start .irq) (start .cycle) (start .raster) (start .compare)
-    (c .before .before .before .before .before .before .before .before .before .line-begins .ensures)
-    (c .before .before .before .before .before .before .before .before .at-last-line .ensures)
-    (c .before .before .before .before .before .before .before .raster-begun .ensures)
-    (c .before .before .before .before .before .before .begin .ensures)
-    (c .before .before .before .before .before .frame-ends .ensures)
-    (c .before .before .before .pick16 .ensures)
+    let start = c .before .before .before .before .before .before .before .before .before .before .before .args in
+    sweep-glue (start .frame) (start .irq) (start .cycle) (start .raster) (start .compare) (start .den) (start .latch)
+    (c .before .before .before .before .before .before .before .before .before .before .line-begins .ensures)
+    (c .before .before .before .before .before .before .before .before .before .at-last-line .ensures)
+    (c .before .before .before .before .before .before .before .before .raster-begun .ensures)
+    (c .before .before .before .before .before .before .before .begin .ensures)
+    (c .before .before .before .before .before .before .frame-ends .ensures)
+    (c .before .before .before .before .pick16 .ensures)
+    (c .before .before .before .latched .ensures)
     (c .before .before .end .ensures)
     (c .before .match-raises .ensures)
     (c .raise .ensures)
@@ -54,6 +58,7 @@ sweep-spec =
     begin-requires
     frame-ends-requires
     pick16-requires
+    latched-requires
     end-requires
     match-raises-requires
     raise-requires

@@ -8,10 +8,15 @@ use Rattle.raster.proofs.turn.Tie as tie
 later-requires : tie.Need-later-requires
 later-requires c κs = search needs
 
+latched-requires : tie.Need-latched-requires
+latched-requires c κs = search needs
+
 returns : tie.Need-returns
 returns c =
-    let start = c .before .before in
-    swept-later (start .args .frame) (start .args .irq) (start .args .cycle) (start .args .raster) (start .args .compare) (later (start .args .cycle) (start .pre) (sym (c .before .later .ensures) ∙ c .if1 .taken))
+    let start = c .before .before .before in
+    rw (c .latched .ensures)
+    (swept-later (start .args .frame) (start .args .irq) (start .args .cycle) (start .args .raster) (start .args .compare) (start .args .den) (start .args .latch)
+    (later (start .args .cycle) (start .pre) (sym (c .before .before .later .ensures) ∙ c .before .if1 .taken)))
 
 sweep-requires : tie.Need-sweep-requires
 sweep-requires c κs = search needs
@@ -20,4 +25,4 @@ returns-2 : tie.Need-returns-2
 returns-2 c = search needs
 
 pub turn-spec : {M : Type 1} → statement M
-turn-spec = tie.close (tie.spec later-requires returns sweep-requires returns-2)
+turn-spec = tie.close (tie.spec later-requires latched-requires returns sweep-requires returns-2)

@@ -25,10 +25,10 @@ put-rest-requires : tie.Need-put-rest-requires
 put-rest-requires c κs = search needs
 
 put-clocks-requires : tie.Need-put-clocks-requires
-put-clocks-requires c κs = c .before .before .before .before .put-rest .ensures .size ∙ c .before .before .before .before .before .before .before .before .put-matrix .ensures .size ∙ c .before .before .before .before .before .before .before .before .before .before .before .before .put-sprites .ensures .size ∙ c .before .before .before .before .before .before .before .before .before .before .before .before .before .before .before .before .put-masks .ensures .size ∙ c .before .before .before .before .before .before .before .before .before .before .before .before .before .before .before .before .before .before .before .before .put-registers .ensures .size ∙ c .before .before .before .before .before .before .before .before .before .before .before .before .before .before .before .before .before .before .before .before .before .before .before .before .put-head .ensures .size ∙ c .before .before .before .before .before .before .before .before .before .before .before .before .before .before .before .before .before .before .before .before .before .before .before .before .before .before .before .before .before .before .before .before .before .before .before .before .before .pre
+put-clocks-requires c κs = c .before .before .before .before .put-rest .ensures .size ∙ c .before .before .before .before .before .before .before .before .put-matrix .ensures .size ∙ c .before .before .before .before .before .before .before .before .before .before .before .before .put-sprites .ensures .size ∙ c .before .before .before .before .before .before .before .before .before .before .before .before .before .before .before .before .put-masks .ensures .size ∙ c .before .before .before .before .before .before .before .before .before .before .before .before .before .before .before .before .before .before .before .before .put-registers .ensures .size ∙ c .before .before .before .before .before .before .before .before .before .before .before .before .before .before .before .before .before .before .before .before .before .before .before .before .put-head .ensures .size ∙ c .before .before .before .before .before .before .before .before .before .before .before .before .before .before .before .before .before .before .before .before .before .before .before .before .before .before .before .before .before .before .before .before .before .before .before .before .before .before .pre
 
 put-place-requires : tie.Need-put-place-requires
-put-place-requires c κs = c .before .before .before .put-clocks .ensures .size ∙ c .before .before .before .before .before .before .before .before .put-rest .ensures .size ∙ c .before .before .before .before .before .before .before .before .before .before .before .before .put-matrix .ensures .size ∙ c .before .before .before .before .before .before .before .before .before .before .before .before .before .before .before .before .put-sprites .ensures .size ∙ c .before .before .before .before .before .before .before .before .before .before .before .before .before .before .before .before .before .before .before .before .put-masks .ensures .size ∙ c .before .before .before .before .before .before .before .before .before .before .before .before .before .before .before .before .before .before .before .before .before .before .before .before .put-registers .ensures .size ∙ c .before .before .before .before .before .before .before .before .before .before .before .before .before .before .before .before .before .before .before .before .before .before .before .before .before .before .before .before .put-head .ensures .size ∙ c .before .before .before .before .before .before .before .before .before .before .before .before .before .before .before .before .before .before .before .before .before .before .before .before .before .before .before .before .before .before .before .before .before .before .before .before .before .before .before .before .before .pre
+put-place-requires c κs = c .before .before .before .put-clocks .ensures .size ∙ c .before .before .before .before .before .before .before .before .put-rest .ensures .size ∙ c .before .before .before .before .before .before .before .before .before .before .before .before .put-matrix .ensures .size ∙ c .before .before .before .before .before .before .before .before .before .before .before .before .before .before .before .before .put-sprites .ensures .size ∙ c .before .before .before .before .before .before .before .before .before .before .before .before .before .before .before .before .before .before .before .before .put-masks .ensures .size ∙ c .before .before .before .before .before .before .before .before .before .before .before .before .before .before .before .before .before .before .before .before .before .before .before .before .put-registers .ensures .size ∙ c .before .before .before .before .before .before .before .before .before .before .before .before .before .before .before .before .before .before .before .before .before .before .before .before .before .before .before .before .put-head .ensures .size ∙ c .before .before .before .before .before .before .before .before .before .before .before .before .before .before .before .before .before .before .before .before .before .before .before .before .before .before .before .before .before .before .before .before .before .before .before .before .before .before .before .before .before .before .pre
 
 same-length : tie.Need-same-length
 same-length c = search needs
@@ -36,7 +36,7 @@ same-length c = search needs
 returns : tie.Need-returns
 unfolding encoded
 returns c =
-    let start = c .before .before .before .before .before .before .before .before .before .before .before .before .before .before .before .before .before .before .before .before .before .before .before .before .before .before .before .before .before .before .before .before .before .before .before .before .before .before .before .before .before .before .before .before in
+    let start = c .before .before .before .before .before .before .before .before .before .before .before .before .before .before .before .before .before .before .before .before .before .before .before .before .before .before .before .before .before .before .before .before .before .before .before .before .before .before .before .before .before .before .before .before .before in
     let head = c .before .before .before .before .before .before .before .before .before .before .before .before .before .before .before .before .before .before .before .before .before .before .before .before .before .before .before .before .before .before .before .put-head .ensures in
     let registers = c .before .before .before .before .before .before .before .before .before .before .before .before .before .before .before .before .before .before .before .before .before .before .before .before .before .before .before .put-registers .ensures in
     let masks = c .before .before .before .before .before .before .before .before .before .before .before .before .before .before .before .before .before .before .before .before .before .before .before .put-masks .ensures in

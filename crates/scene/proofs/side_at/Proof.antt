@@ -23,17 +23,14 @@ bus-at-requires c κs = search needs
 rows-at-requires : tie.Need-rows-at-requires
 rows-at-requires c κs = search needs
 
-shared-slice-read-place-of : tie.Need-shared-slice-read-place-of
-shared-slice-read-place-of c = search needs
+waits-at-requires : tie.Need-waits-at-requires
+waits-at-requires c κs = search needs
 
-place-of-requires : tie.Need-place-of-requires
-place-of-requires c κs = search needs
-
-shared-slice-read-t13 : tie.Need-shared-slice-read-t13
-shared-slice-read-t13 c = search needs
+shared-slice-read-t11 : tie.Need-shared-slice-read-t11
+shared-slice-read-t11 c = search needs
 
 returns : tie.Need-returns
-returns c = simp (c .before .place-of .ensures, c .before .before .before .rows-at .ensures, c .before .before .before .before .bus-at .ensures, c .before .before .before .before .before .sprites-at .ensures, c .before .before .before .before .before .before .border-at .ensures, c .before .before .before .before .before .before .before .frame-at .ensures, c .before .before .before .before .before .before .before .before .beam-at .ensures, c .before .before .before .before .before .before .before .before .before .irq-at .ensures)
+returns c = simp (c .before .waits-at .ensures, c .before .before .rows-at .ensures, c .before .before .before .bus-at .ensures, c .before .before .before .before .sprites-at .ensures, c .before .before .before .before .before .border-at .ensures, c .before .before .before .before .before .before .frame-at .ensures, c .before .before .before .before .before .before .before .beam-at .ensures, c .before .before .before .before .before .before .before .before .irq-at .ensures)
 
 pub side-at-spec : {M : Type 1} → statement M
 side-at-spec =
@@ -46,7 +43,6 @@ side-at-spec =
     sprites-at-requires
     bus-at-requires
     rows-at-requires
-    shared-slice-read-place-of
-    place-of-requires
-    shared-slice-read-t13
+    waits-at-requires
+    shared-slice-read-t11
     returns)

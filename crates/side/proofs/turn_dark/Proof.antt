@@ -15,10 +15,10 @@ turn-requires : tie.Need-turn-requires
 turn-requires c κs = rw (c .next-cycle .ensures) (small _)
 
 border-dark-requires : tie.Need-border-dark-requires
-border-dark-requires c κs = (rw (c .before .before .before .next-cycle .ensures) (small _), rw (c .before .before .before .next-cycle .ensures) (c .before .before .before .before .before .before .before .before .before .before .before .before .before .pre .1))
+border-dark-requires c κs = (rw (c .before .before .before .next-cycle .ensures) (small _), rw (c .before .before .before .next-cycle .ensures) (c .before .before .before .before .before .before .before .before .before .before .before .before .before .before .pre .1))
 
 sprites-dark-requires : tie.Need-sprites-dark-requires
-sprites-dark-requires c κs = (rw (c .before .before .before .before .next-cycle .ensures) (small _), rw (c .before .before .before .before .next-cycle .ensures) (c .before .before .before .before .before .before .before .before .before .before .before .before .before .before .pre .1))
+sprites-dark-requires c κs = (rw (c .before .before .before .before .next-cycle .ensures) (small _), rw (c .before .before .before .before .next-cycle .ensures) (c .before .before .before .before .before .before .before .before .before .before .before .before .before .before .before .pre .1))
 
 turn-requires-2 : tie.Need-turn-requires-2
 turn-requires-2 c κs = search needs
@@ -61,7 +61,7 @@ next-pending-requires c κs = search needs
 
 returns : tie.Need-returns
 returns c =
-    let start = c .before .before .before .before .before .before .before .before .before .before .before .before .before .before .before .before .before .before .before .before .before .before .before .before .before .before .before .before .before .before .before .before .before .before .before .args in
+    let start = c .before .before .before .before .before .before .before .before .before .before .before .before .before .before .before .before .before .before .before .before .before .before .before .before .before .before .before .before .before .before .before .before .before .before .before .before .args in
     turn-glue (start .g) (start .side)
     (c .before .before .before .before .before .before .before .before .before .before .before .before .before .before .before .before .before .before .before .before .before .before .before .before .before .before .clocked .ensures)
     (c .before .before .before .before .before .before .before .before .before .before .before .before .before .before .before .before .before .before .before .before .before .before .before .before .before .next-cycle .ensures)

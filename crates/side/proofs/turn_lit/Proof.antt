@@ -10,17 +10,20 @@ clocked-requires c κs = search needs
 next-cycle-requires : tie.Need-next-cycle-requires
 next-cycle-requires c κs = search needs
 
+latched-requires : tie.Need-latched-requires
+latched-requires c κs = search needs
+
 border-lit-requires : tie.Need-border-lit-requires
-border-lit-requires c κs = rw (c .next-cycle .ensures) (c .before .before .before .before .before .before .before .before .before .before .pre .1)
+border-lit-requires c κs = rw (c .before .next-cycle .ensures) (c .before .before .before .before .before .before .before .before .before .before .before .before .pre .1)
 
 sprites-lit-requires : tie.Need-sprites-lit-requires
-sprites-lit-requires c κs = rw (c .before .next-cycle .ensures) (c .before .before .before .before .before .before .before .before .before .before .before .pre .1)
+sprites-lit-requires c κs = rw (c .before .before .next-cycle .ensures) (c .before .before .before .before .before .before .before .before .before .before .before .before .before .pre .1)
 
 turn-requires : tie.Need-turn-requires
 turn-requires c κs = search needs
 
 asked-lit-requires : tie.Need-asked-lit-requires
-asked-lit-requires c κs = rw (c .before .before .before .next-cycle .ensures) (c .before .before .before .before .before .before .before .before .before .before .before .before .before .pre .1)
+asked-lit-requires c κs = rw (c .before .before .before .before .next-cycle .ensures) (c .before .before .before .before .before .before .before .before .before .before .before .before .before .before .before .pre .1)
 
 arbitrate-requires : tie.Need-arbitrate-requires
 arbitrate-requires c κs = search needs
@@ -32,18 +35,19 @@ has-bit-requires : tie.Need-has-bit-requires
 has-bit-requires c κs = search needs
 
 turn-lit-requires : tie.Need-turn-lit-requires
-turn-lit-requires c κs = rw (c .before .before .before .before .before .before .before .next-cycle .ensures) (c .before .before .before .before .before .before .before .before .before .before .before .before .before .before .before .before .before .pre .1)
+turn-lit-requires c κs = rw (c .before .before .before .before .before .before .before .before .next-cycle .ensures) (c .before .before .before .before .before .before .before .before .before .before .before .before .before .before .before .before .before .before .before .pre .1)
 
 next-pending-requires : tie.Need-next-pending-requires
 next-pending-requires c κs = search needs
 
 returns : tie.Need-returns
 returns c =
-    let start = c .before .before .before .before .before .before .before .before .before .before .before .before .before .before .before .before .before .before .before .before .before .before .before .before .before .before in
+    let start = c .before .before .before .before .before .before .before .before .before .before .before .before .before .before .before .before .before .before .before .before .before .before .before .before .before .before .before .before in
     lit-glue (start .args .g) (start .args .side)
-    (lit _ (rw (c .before .before .before .before .before .before .before .before .before .before .before .before .before .before .before .before .next-cycle .ensures) (start .pre .1)))
-    (c .before .before .before .before .before .before .before .before .before .before .before .before .before .before .before .before .before .clocked .ensures)
-    (c .before .before .before .before .before .before .before .before .before .before .before .before .before .before .before .before .next-cycle .ensures)
+    (lit _ (rw (c .before .before .before .before .before .before .before .before .before .before .before .before .before .before .before .before .before .next-cycle .ensures) (start .pre .1)))
+    (c .before .before .before .before .before .before .before .before .before .before .before .before .before .before .before .before .before .before .clocked .ensures)
+    (c .before .before .before .before .before .before .before .before .before .before .before .before .before .before .before .before .before .next-cycle .ensures)
+    (c .before .before .before .before .before .before .before .before .before .before .before .before .before .before .before .before .latched .ensures)
     (c .before .before .before .before .before .before .before .before .before .before .before .before .before .before .before .border-lit .ensures)
     (c .before .before .before .before .before .before .before .before .before .before .before .before .before .before .sprites-lit .ensures)
     (c .before .before .before .before .before .before .before .before .before .before .before .before .before .turn .ensures)
@@ -60,6 +64,7 @@ turn-lit-spec =
     (tie.spec
     clocked-requires
     next-cycle-requires
+    latched-requires
     border-lit-requires
     sprites-lit-requires
     turn-requires

@@ -3,9 +3,6 @@ use borrow.Author.Needs.{needs}
 use Rattle.timing.proofs.Beam.turn.Statement.{statement}
 use Rattle.timing.proofs.Beam.turn.Tie as tie
 
-latched-requires : tie.Need-latched-requires
-latched-requires c κs = search needs
-
 bad-line-requires : tie.Need-bad-line-requires
 bad-line-requires c κs = search needs
 
@@ -14,7 +11,7 @@ ba-output-requires c κs = search needs
 
 returns : tie.Need-returns
 unfolding beamTurned
-returns c = rw (c .ba-output .ensures, c .before .before .bad-line .ensures, c .before .before .before .latched .ensures)
+returns c = rw (c .ba-output .ensures, c .before .before .bad-line .ensures)
 
 pub turn-spec : {M : Type 1} → statement M
-turn-spec = tie.close (tie.spec latched-requires bad-line-requires ba-output-requires returns)
+turn-spec = tie.close (tie.spec bad-line-requires ba-output-requires returns)
