@@ -1,0 +1,19 @@
+use Rattle.line.proofs.Join.{one}
+use borrow.Author.Needs.{needs}
+use Rattle.vcd.proofs.byte.Statement.{statement}
+use Rattle.vcd.proofs.byte.Tie as tie
+
+slice-write-out : tie.Need-slice-write-out
+slice-write-out c = search needs
+
+add-result : tie.Need-add-result
+add-result c = search needs
+
+same-length : tie.Need-same-length
+same-length c = search needs
+
+returns : tie.Need-returns
+returns c = (search needs, one _ _ _)
+
+pub byte-spec : {M : Type 1} → statement M
+byte-spec = tie.close (tie.spec slice-write-out add-result same-length returns)

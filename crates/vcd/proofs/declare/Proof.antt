@@ -1,0 +1,21 @@
+use Rattle.vcd.specs.Text.{ascii, declarations}
+use borrow.Author.Needs.{needs}
+use Rattle.vcd.proofs.declare.Statement.{statement}
+use Rattle.vcd.proofs.declare.Tie as tie
+
+slice-aggregate-text : tie.Need-slice-aggregate-text
+slice-aggregate-text c = search needs
+
+text-requires : tie.Need-text-requires
+text-requires c κs = search needs
+
+same-length : tie.Need-same-length
+same-length c = search needs
+
+returns : tie.Need-returns
+unfolding declarations ascii
+returns c =
+    c .before .before .text .ensures
+
+pub declare-spec : {M : Type 1} → statement M
+declare-spec = tie.close (tie.spec slice-aggregate-text text-requires same-length returns)

@@ -1,0 +1,3 @@
+pub mod Signals
+pub mod Text
+pub mod Steps
