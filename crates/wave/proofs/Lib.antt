@@ -1,0 +1,3 @@
+pub mod Glue
+pub mod Thirteen
+pub mod Widths
