@@ -10,11 +10,11 @@ use lib.Seq.{take-at, length-take-le}
 use borrow.Author.Tests.{leb-true}
 use Rattle.laws.proofs.Choice.{either, by-test}
 use Rattle.script.specs.declared.Found.{Found}
-use Rattle.script.specs.Cursor.{startOf, nextOf}
+use Rattle.script.specs.Machinery.Cursor.{startOf, nextOf}
 use Rattle.line.specs.Text.{Written}
 use Rattle.driver.specs.declared.Run.{Run}
 use Rattle.driver.specs.Driver.{Store, storeAt, begunOf as driveBegun}
-use Rattle.sheet.specs.Fill as fill
+use Rattle.sheet.specs.Machinery.Fill as fill
 use Rattle.sheet.specs.Chart.{Ends}
 use Rattle.vcd.specs.Text.{declarations, ticksText, dumpText, fresh}
 use Rattle.vcd.proofs.Copy.{pasted-is}

@@ -10,7 +10,7 @@ use Rattle.script.specs.declared.Item.the-variants as item
 use Rattle.script.specs.declared.Step.{Step}
 use Rattle.script.specs.declared.Step.the-variants as step
 use Rattle.script.specs.declared.Found.{Found}
-use Rattle.script.specs.Cursor.{nextOf}
+use Rattle.script.specs.Machinery.Cursor.{nextOf}
 use Rattle.chip.specs.declared.Chip.{Chip}
 use Rattle.run.specs.declared.Done.{Done}
 use Rattle.run.specs.Run.{doneOf}
@@ -20,7 +20,7 @@ use Rattle.driver.specs.declared.Event.the-variants as event
 use Rattle.driver.specs.declared.Made.{Made}
 use Rattle.driver.specs.Driver.{Store, hostOf, eventOf, madeBy, madeDoing, madeAt, madeOn, storeAt}
 use Rattle.sheet.specs.Sheet.{withText, runAt, runIn}
-use Rattle.sheet.specs.Fill as fill
+use Rattle.sheet.specs.Machinery.Fill as fill
 use Rattle.sheet.proofs.Less.{turn-less}
 use Rattle.vcd.specs.declared.Record.{Record}
 use Rattle.vcd.specs.declared.Wave.{Wave}

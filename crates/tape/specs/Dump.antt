@@ -3,7 +3,7 @@ use Prim.Native.Nat.{ℕ, zero, suc, _+_}
 use mathlib.Core.Bool.{cond}
 use mathlib.Core.List.{List, [], _∷_, _++_}
 use lib.ListN.{length}
-use Rattle.script.specs.Cursor.{nextOf}
+use Rattle.script.specs.Machinery.Cursor.{nextOf}
 use Rattle.chip.specs.declared.Chip.{Chip}
 use Rattle.driver.specs.declared.Run.{Run}
 use Rattle.driver.specs.declared.Event.{Event}

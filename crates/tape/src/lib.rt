@@ -3,7 +3,7 @@ ghost use mathlib.Core.Path.{_≡_};
 ghost use mathlib.Core.Bool.{true, false};
 ghost use Prim.Native.Nat.{_+_, _≤_};
 ghost use lib.ListN.{length};
-ghost use Rattle.script.specs.Cursor.{nextOf};
+ghost use Rattle.script.specs.Machinery.Cursor.{nextOf};
 ghost use Rattle.line.specs.Text.{Written};
 ghost use Rattle.driver.specs.Driver.{store, storeAt};
 ghost use Rattle.sheet.specs.Chart.{Ends};
