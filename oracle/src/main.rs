@@ -7,9 +7,11 @@ mod chart;
 mod check;
 mod clockchip;
 mod compare;
+mod dump;
 mod memory;
 mod pace;
 mod pla;
+mod play;
 mod replay;
 mod rng;
 mod runs;
@@ -33,6 +35,7 @@ const USAGE: &str = "usage:
   oracle fields                          list a scene's fields: place, size, kind, name
   oracle runs SEED COUNT DIR             make run files
   oracle chart < FILE > OUT              chart a run file with the original
+  oracle dump < FILE > OUT               dump a run file's ticks with the original
   oracle questions SEED COUNT DIR        make questions for ask, a file for each part
   oracle sample-questions SEED OUTFILE   make the few questions that the test asks
   oracle ask INFILE OUTFILE              answer questions with the original
@@ -75,18 +78,17 @@ fn run(arguments: &[&str]) -> io::Result<Option<bool>> {
         }
         ["runs", seed, count, folder] => runs::make(number(seed)?, number(count)?, folder).map(|()| true),
         ["chart"] => {
-            let mut bytes = Vec::new();
-            io::stdin().lock().read_to_end(&mut bytes)?;
             let mut output = BufWriter::new(io::stdout().lock());
-            chart::chart(&bytes, &mut output)?;
+            chart::chart(&given()?, &mut output)?;
+            output.flush().map(|()| true)
+        }
+        ["dump"] => {
+            let mut output = BufWriter::new(io::stdout().lock());
+            dump::dump(&given()?, &mut output)?;
             output.flush().map(|()| true)
         }
         ["power-up"] => io::stdout().write_all(&Machine::new(Memory::new()).state().encode()).map(|()| true),
-        ["pace"] => {
-            let mut bytes = Vec::new();
-            io::stdin().lock().read_to_end(&mut bytes)?;
-            pace::pace(&bytes, &mut io::stdout().lock()).map(|()| true)
-        }
+        ["pace"] => pace::pace(&given()?, &mut io::stdout().lock()).map(|()| true),
         ["questions", seed, count, folder] => ask::make(number(seed)?, number(count)?, folder).map(|()| true),
         ["sample-questions", seed, output] => ask::make_sample(number(seed)?, output).map(|()| true),
         ["ask", input, output] => ask::answer(input, output).map(|()| true),
@@ -95,6 +97,13 @@ fn run(arguments: &[&str]) -> io::Result<Option<bool>> {
         _ => return Ok(None),
     };
     verdict.map(Some)
+}
+
+/// All of standard input.
+fn given() -> io::Result<Vec<u8>> {
+    let mut bytes = Vec::new();
+    io::stdin().lock().read_to_end(&mut bytes)?;
+    Ok(bytes)
 }
 
 fn number(text: &str) -> io::Result<u64> {

@@ -3,6 +3,7 @@
 use crate::accept::accepted;
 use crate::ask::{mask_at, panics};
 use crate::chart::chart;
+use crate::dump::dump;
 use crate::memory::Memory;
 use crate::replay::{answer_case, Case, LATE_BYTE, TICK};
 use crate::rng::Rng;
@@ -22,6 +23,7 @@ const CHECKS: &[Check] = &[
     ("power-up", power_up),
     ("document 01's chart", the_chart),
     ("faults of a run file", faults),
+    ("docs/FORMATS.md's dump", the_dump),
     ("the twelve settled by proof", the_twelve),
     ("the mask follows the slots", the_mask),
     ("what the original does where the port leaves it", the_originals_own),
@@ -120,6 +122,53 @@ fn the_chart() -> bool {
     let mut bytes = vec![0, 0, 0, 0, 0, 0, 3, 0];
     bytes.extend([0; 15]);
     charted(&bytes) == "steps 3\n1 311 1 1 0 0 0 0\n2 0 1 1 0 0 0 1\n3 0 1 1 0 0 0 1\n"
+}
+
+/// Every line of a dump: the declarations, a first tick, later ones, a refusal with ticks before it and without.
+fn the_dump() -> bool {
+    let dumped = |bytes: &[u8]| {
+        let mut text = Vec::new();
+        dump(bytes, &mut text).expect("a list can be written");
+        String::from_utf8(text).expect("a dump is plain text")
+    };
+    let head = "$version Nickelplait $end
+$timescale 1 us $end
+$scope module vic $end
+$var wire 7 A cycle $end
+$var wire 9 B raster $end
+$var wire 1 C ba $end
+$var wire 1 D aec $end
+$var wire 8 E dma $end
+$var wire 3 F rc $end
+$var wire 10 G vc $end
+$var wire 1 H irq $end
+$upscope $end
+$enddefinitions $end
+";
+    // The interrupt is enabled, so the raster interrupt of line 0 pulls the line down.
+    let mut run = vec![0, 0, 0, 0, 0, 0, 5, 0, 1, 0x1A, 1, 0, 0];
+    run.extend([0; 15]);
+    run.extend([7, 4, 0, 0, 0]);
+    let ticks = "#0
+$dumpvars
+b1 A
+b100110111 B
+1C
+1D
+b0 E
+b0 F
+b0 G
+1H
+$end
+#1
+b10 A
+b0 B
+0H
+#2
+b11 A
+$comment refused 8 4 $end
+";
+    dumped(&run) == format!("{head}{ticks}") && dumped(&[0; 8]) == head && dumped(&[]) == format!("{head}$comment refused 7 0 $end\n") && head.len() == 292
 }
 
 /// One file for each reading of docs/DECISIONS.md, 33.
