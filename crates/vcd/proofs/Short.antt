@@ -16,7 +16,7 @@ use Rattle.vcd.specs.Text.{ascii, declarations, digitsOf, valueText, cha
 use Rattle.vcd.specs.Steps.{partText, beamText, restText}
 use Rattle.vcd.proofs.Pieces.{all-values, changed-values}
 
-digits-few : (b more n : ℕ) → length (digitsOf b more n) ≤ more + 1
+pub digits-few : (b more n : ℕ) → length (digitsOf b more n) ≤ more + 1
 unfolding digitsOf
 digits-few b zero n = omega arith
 digits-few b (suc more) n =
