@@ -21,7 +21,7 @@ use Rattle.vcd.proofs.Copy.{pasted-is}
 use Rattle.vcd.proofs.Short.{declarations-292}
 use Rattle.tape.specs.declared.Tape.{Tape}
 use Rattle.tape.specs.Dump.{Played, played, playedOf, dumpOf}
-use Rattle.tape.specs.Tape.{tape, begunOf, roomed, saidOn, tapeOn}
+use Rattle.tape.specs.Machinery.Tape.{tape, begunOf, roomed, saidOn, tapeOn}
 use Rattle.tape.proofs.Turns.{ahead, is-over, toCome, over-come, falls, on-one, one, some}
 
 -- the buffer up to the place after a text

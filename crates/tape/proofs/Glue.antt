@@ -10,7 +10,7 @@ use Rattle.line.specs.Text.{Written}
 use Rattle.vcd.specs.declared.Wave.{Wave}
 use Rattle.tape.specs.declared.Tape.{Tape}
 use Rattle.tape.specs.declared.Noted.{Noted}
-use Rattle.tape.specs.Tape.{tape, waveBy, saidBy, tapeBy, saidOn, tapeOn}
+use Rattle.tape.specs.Machinery.Tape.{tape, waveBy, saidBy, tapeBy, saidOn, tapeOn}
 
 module _ (m after-m : Store) (b r : Tape) (x : Made) (found : Found) (n : Noted) (out after : List ℕ) where
   abbrev Turn : Made → Type 0

@@ -28,7 +28,7 @@ use Rattle.vcd.specs.Text.{pieceOf, waveAfter, refusalText, ticksText}
 use Rattle.wave.specs.Wave.{recordOf}
 use Rattle.tape.specs.declared.Tape.{Tape}
 use Rattle.tape.specs.Dump.{Played, recordsBy, refusalBy, first, over, played}
-use Rattle.tape.specs.Tape.{textBy, waveBy, saidOn, tapeOn}
+use Rattle.tape.specs.Machinery.Tape.{textBy, waveBy, saidOn, tapeOn}
 
 -- the bytes that a run still has to read, and one; none where it is over
 abbrev pub ahead : List ℕ → Run → ℕ

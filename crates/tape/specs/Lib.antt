@@ -1,2 +1,2 @@
 pub mod Dump
-pub mod Tape
+pub mod Machinery

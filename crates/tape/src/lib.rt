@@ -10,7 +10,7 @@ ghost use Rattle.sheet.specs.Chart.{Ends};
 ghost use Rattle.vcd.specs.Text.{pieceOf, waveAfter};
 ghost use Rattle.wave.specs.Wave.{recordOf};
 ghost use Rattle.tape.specs.Dump.{playedOf, dumpOf};
-ghost use Rattle.tape.specs.Tape.{textBy, waveBy, tape, begunOf, roomed, saidOn, tapeOn};
+ghost use Rattle.tape.specs.Machinery.Tape.{textBy, waveBy, tape, begunOf, roomed, saidOn, tapeOn};
 use chip::Chip;
 use driver::Event;
 use driver::Run;

@@ -9,7 +9,7 @@ use lib.ListN.{length}
 use Rattle.vcd.specs.declared.Record.{Record}
 use Rattle.vcd.specs.Signals.{Change, change, valuesOf, widthOf, changesFrom, changesOf, allFrom, allOf}
 use Rattle.vcd.specs.Text.{changesText}
-use Rattle.vcd.specs.Steps.{partText, beamText, restText}
+use Rattle.vcd.specs.Machinery.Steps.{partText, beamText, restText}
 
 unfoldable parts : ℕ → Bool → List ℕ → List ℕ → List ℕ
 parts k all (x ∷ was) (y ∷ now) = partText k (widthOf k) all x y ++ parts (suc k) all was now

@@ -13,7 +13,7 @@ use Rattle.vcd.specs.declared.Record.{Record}
 use Rattle.vcd.specs.declared.Wave.{Wave}
 use Rattle.vcd.specs.Signals.{changesOf, allOf}
 use Rattle.vcd.specs.Text.{ascii, declarations, digitsOf, valueText, changesText, markText, firstText, laterText, refusalText, timeOf, pieceOf}
-use Rattle.vcd.specs.Steps.{partText, beamText, restText}
+use Rattle.vcd.specs.Machinery.Steps.{partText, beamText, restText}
 use Rattle.vcd.proofs.Pieces.{all-values, changed-values}
 
 pub digits-few : (b more n : ℕ) → length (digitsOf b more n) ≤ more + 1

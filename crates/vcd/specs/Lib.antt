@@ -1,3 +1,3 @@
 pub mod Signals
 pub mod Text
-pub mod Steps
+pub mod Machinery

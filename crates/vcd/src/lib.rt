@@ -6,7 +6,7 @@ ghost use lib.ListN.{length};
 ghost use Rattle.line.specs.Text.{Written};
 ghost use Rattle.vcd.specs.Signals.{widthOf};
 ghost use Rattle.vcd.specs.Text.{declarations, digitsOf, valueText, markText, firstText, laterText, refusalText, nextTime, timeOf, pieceOf, waveAfter, fresh};
-ghost use Rattle.vcd.specs.Steps.{partText, beamText, restText};
+ghost use Rattle.vcd.specs.Machinery.Steps.{partText, beamText, restText};
 
 // A tick's values, in the order of the declarations: 0 is low.
 pub struct Record {

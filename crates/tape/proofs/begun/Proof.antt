@@ -1,4 +1,4 @@
-use Rattle.tape.specs.Tape.{begunOf}
+use Rattle.tape.specs.Machinery.Tape.{begunOf}
 use borrow.Author.Needs.{needs}
 use Rattle.tape.proofs.begun.Statement.{statement}
 use Rattle.tape.proofs.begun.Tie as tie

@@ -1,6 +1,6 @@
 use native.Mathlib.Omega.{arith}
 use Rattle.vcd.proofs.Copy.{nothing}
-use Rattle.tape.specs.Tape.{textBy, waveBy}
+use Rattle.tape.specs.Machinery.Tape.{textBy, waveBy}
 use borrow.Author.Needs.{needs}
 use Rattle.tape.proofs.told.Statement.{statement}
 use Rattle.tape.proofs.told.Tie as tie

@@ -1,4 +1,4 @@
-use Rattle.tape.specs.Tape.{roomed}
+use Rattle.tape.specs.Machinery.Tape.{roomed}
 use borrow.Author.Tests.{le-leb, lt-leb}
 use borrow.Author.Needs.{needs}
 use Rattle.tape.proofs.with_room.Statement.{statement}

@@ -1,6 +1,6 @@
 use native.Mathlib.Omega.{arith}
 use Rattle.line.proofs.Join.{on}
-use Rattle.vcd.specs.Steps.{beamText}
+use Rattle.vcd.specs.Machinery.Steps.{beamText}
 use borrow.Author.Needs.{needs}
 use Rattle.vcd.proofs.beam.Statement.{statement}
 use Rattle.vcd.proofs.beam.Tie as tie

@@ -1,6 +1,6 @@
 use native.Mathlib.Omega.{arith}
 use Rattle.line.proofs.Join.{on}
-use Rattle.vcd.specs.Steps.{restText}
+use Rattle.vcd.specs.Machinery.Steps.{restText}
 use borrow.Author.Needs.{needs}
 use Rattle.vcd.proofs.rest.Statement.{statement}
 use Rattle.vcd.proofs.rest.Tie as tie

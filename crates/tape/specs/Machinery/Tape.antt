@@ -1,4 +1,4 @@
--- A dump on its way: its text so far, turn by turn.
+-- A dump on its way: its text so far, turn by turn. No rules: what private functions hand on.
 use Prim.Native.Nat.{ℕ, _+_}
 use mathlib.Core.Bool.{cond}
 use mathlib.Core.List.{List, []}
