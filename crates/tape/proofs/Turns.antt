@@ -36,7 +36,7 @@ ahead s r = fill.ahead s (withText r 0)
 
 -- ---- a refusal ends the run
 
-abbrev Over : Event → Bool → Type 0
+abbrev pub Over : Event → Bool → Type 0
 Over event.Nothing go = Unit {0}
 Over (event.Steps n) go = Unit {0}
 Over event.Tick go = Unit {0}
@@ -57,7 +57,7 @@ did-over : (r : Run) (s : Step) (d : Done) (fine : Bool) → eqb (d .refused) 0 
 did-over r s d true e = simp e (step-over s (r .going))
 did-over r s d false e = simp e refl
 
-made-over : (m : Store) (r : Run) (i : Item) → Over (madeAt m r i .event) (madeAt m r i .run .going)
+pub made-over : (m : Store) (r : Run) (i : Item) → Over (madeAt m r i .event) (madeAt m r i .run .going)
 unfolding madeAt madeDoing
 made-over m r (item.Changes memory n) = tt
 made-over m r (item.Change memory address value) = tt
