@@ -13,7 +13,7 @@ use Rattle.script.specs.declared.Item.{Item}
 use Rattle.script.specs.declared.Item.the-variants as item
 use Rattle.script.specs.declared.Step.{Step}
 use Rattle.script.specs.declared.Step.the-variants as step
-use Rattle.script.specs.Cursor.{nextOf}
+use Rattle.script.specs.Machinery.Cursor.{nextOf}
 use Rattle.chip.specs.declared.Chip.{Chip}
 use Rattle.sequencer.specs.Tick.{tickRefusal, tickOf, ticked}
 use Rattle.run.specs.Run.{doneOf}
@@ -32,6 +32,7 @@ use Rattle.tape.specs.Dump.{Played, recordsBy, refusalBy, first, over, played, 
 use Rattle.tape.proofs.Turns.{Over, made-over, is-over}
 use Rattle.viewer.specs.Words.{wordsOf}
 use Rattle.viewer.specs.Reader.{views, start, seenFrom}
+use Rattle.playback.specs.Playback.{RunFileReadsBack}
 use Rattle.viewer.proofs.Back.{AllWithin, text-reads-back, refused-text-reads-back}
 
 -- ---- every record is a tick's, within the widths
@@ -126,8 +127,7 @@ by-ending : (rs : List Record) (tail : List ℕ) → Ending tail → AllWithin r
 by-ending rs [] plainly f h = ap (λ (t : List ℕ). views start (wordsOf t)) (append-nil (dumpText rs)) ∙ text-reads-back rs f h
 by-ending rs tail (refused number done) f h = refused-text-reads-back rs number done f h
 
--- 02 (i): of any run file that memory can hold, a viewer sees each tick's record, one a time unit, and no change that changed nothing
-pub run-file-reads-back : (m : Store) (s : List ℕ) → length s + 1 < 2 ^ 64 → views start (wordsOf (dumpOf m s)) ≡ seenFrom 0 (playedOf m s .records)
+pub run-file-reads-back : RunFileReadsBack
 unfolding dumpOf playedOf
 run-file-reads-back m s h =
     let p = sound (length s + 1) s m _ in

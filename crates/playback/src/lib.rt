@@ -1,1 +1,1 @@
-// What a viewer reads off the dump of a run file: the record of each of its ticks. The theorem is in proofs/Playback.antt.
+// What a viewer reads off the dump of a run file: a definition and a theorem alone.
