@@ -27,6 +27,10 @@ module _ (out₀ words out : List ℕ) (at i : ℕ) (w : Written out₀ at (take
   pub all-there : length words ≤ i → Written out₀ at words out (at + i)
   all-there h = named-as (sym (take-all i words h)) w
 
+-- the place and the buffer, each by itself
+pub apart : {out words after : List ℕ} {at next : ℕ} → Written out at words after next → (next ≡ at + length words) × (after ≡ pasted out at words)
+apart w = (w .place, w .text)
+
 -- the stores, as lists
 stores : (text out : List ℕ) (at : ℕ) → pasted out at text ≡ sets out at text
 unfolding pasted

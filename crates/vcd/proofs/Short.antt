@@ -80,6 +80,11 @@ unfolding textOf
 steps-few n end =
     either (AtMost 6) (ltb n 10) (omega arith) (either (AtMost 6) (ltb n 100) (omega arith) (either (AtMost 6) (ltb n 1000) (omega arith) (either (AtMost 6) (ltb n 10000) (omega arith) (omega arith))))
 
+pub refusal-at-most-34 : (number done : ℕ) → length (refusalText number done) ≤ 34
+unfolding refusalText ascii
+refusal-at-most-34 number done = simp length-append (omega (arith, steps-few number 32, steps-few done 32))
+
+-- a refusal's number is a byte
 pub refusal-at-most-32 : (number done : ℕ) → number < 256 → length (refusalText number done) ≤ 32
 unfolding refusalText ascii
 refusal-at-most-32 number done h = simp length-append (omega (arith, number-few number 32 (omega arith), steps-few done 32))

@@ -3,7 +3,7 @@ ghost use mathlib.Core.Path.{_≡_};
 ghost use mathlib.Core.List.{[], _∷_, _++_};
 ghost use Prim.Native.Nat.{_+_, _-_, _≤_, _<_, _%_};
 ghost use lib.ListN.{length};
-ghost use Rattle.line.specs.Text.{Written};
+ghost use Rattle.line.specs.Text.{pasted, Written};
 ghost use Rattle.vcd.specs.Signals.{widthOf};
 ghost use Rattle.vcd.specs.Text.{declarations, digitsOf, valueText, markText, firstText, laterText, refusalText, nextTime, timeOf, pieceOf, waveAfter, fresh};
 ghost use Rattle.vcd.specs.Machinery.Steps.{partText, beamText, restText};
@@ -165,7 +165,7 @@ fn values(out: &mut [u8], at: usize, all: bool, was: Record, r: Record) -> usize
 // The declarations.
 pub fn declare(out: &mut [u8], at: usize) -> usize
     requires { ⌜ at + 292 ≤ length (now out) ⌝ }
-    ensures { λ r. ⌜ (r ≡ at + 292) × Written (now (out .entry)) at declarations (now (out .exit)) r ⌝ }
+    ensures { λ r. ⌜ (r ≡ at + 292) × (now (out .exit) ≡ pasted (now (out .entry)) at declarations) ⌝ }
 {
     text(
         out,
@@ -206,7 +206,7 @@ fn later(out: &mut [u8], at: usize, time: u64, was: Record, r: Record) -> usize
 // The comment that ends a run that is refused.
 pub fn refused(out: &mut [u8], at: usize, number: u8, done: u16) -> usize
     requires { ⌜ at + 34 ≤ length (now out) ⌝ }
-    ensures { λ e. ⌜ (e ≤ at + 34) × Written (now (out .entry)) at (refusalText number done) (now (out .exit)) e ⌝ }
+    ensures { λ e. ⌜ (e ≡ at + length (refusalText number done)) × (now (out .exit) ≡ pasted (now (out .entry)) at (refusalText number done)) ⌝ }
 {
     let a = text(&mut *out, at, b"$comment refused ");
     let b = line::put(&mut *out, a, laws::wide(number), b' ');
@@ -259,7 +259,7 @@ fn time(w: Wave) -> u64
 // A tick's piece.
 pub fn piece(out: &mut [u8], at: usize, w: Wave, r: Record) -> usize
     requires { ⌜ at + 134 ≤ length (now out) ⌝ }
-    ensures { λ e. ⌜ (e ≤ at + 134) × Written (now (out .entry)) at (pieceOf w r) (now (out .exit)) e ⌝ }
+    ensures { λ e. ⌜ (e ≡ at + length (pieceOf w r)) × (now (out .exit) ≡ pasted (now (out .entry)) at (pieceOf w r)) ⌝ }
 {
     if w.begun {
         return later(out, at, time(w), w.last, r);

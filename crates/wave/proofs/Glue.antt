@@ -5,7 +5,7 @@ use mathlib.Core.List.{List, _++_}
 use native.Mathlib.Omega.{arith}
 use lib.ListN.{length, drop}
 use borrow.Author.Tests.{lt-ltb, le-ltb, eq-eqb, ne-eqb}
-use Rattle.line.specs.Text.{Written}
+use Rattle.line.specs.Text.{Written, pasted}
 use Rattle.chip.specs.declared.Chip.{Chip}
 use Rattle.chip.specs.declared.Answer.{Answer}
 use Rattle.vcd.specs.declared.Record.{Record}
@@ -15,7 +15,7 @@ use Rattle.vcd.proofs.Copy.{pasted-is}
 use Rattle.vcd.proofs.Short.{declarations-292, piece-at-most-88}
 use Rattle.wave.specs.declared.Wrote.{Wrote}
 use Rattle.wave.specs.declared.Told.{Told}
-use Rattle.wave.specs.Wave.{recordOf, over, declared, declaredIn, told, heard, wroteTick, heardBy}
+use Rattle.wave.specs.Wave.{recordOf, over, Declared, declared, declaredIn, told, Heard, heard, wroteTick, heardBy}
 
 module _ (text out after : List ℕ) (n : ℕ) (fits : length text ≤ length out) (w : Written out 0 text after n) where
   front : after ≡ over text out
@@ -24,12 +24,17 @@ module _ (text out after : List ℕ) (n : ℕ) (fits : length text ≤ length ou
       w .text ∙ pasted-is text out 0 (omega arith) ∙ ap (λ (k : ℕ). text ++ drop k out) none
 
 module _ (out after : List ℕ) (n : ℕ) (room : 292 ≤ length out) where
-  pub declares : n ≡ 0 + 292 → Written out 0 declarations after n → declared (record { refused = 0; length = n }) after ≡ declaredIn out
+  declares : n ≡ 0 + 292 → Written out 0 declarations after n → declared (record { refused = 0; length = n }) after ≡ declaredIn out
   unfolding declaredIn
   declares e w =
       simp (le-ltb (length out) 292 room)
       (ap (λ (k : ℕ). declared (record { refused = 0; length = k }) after) (let z : n ≡ 292 = omega (arith, e) in z)
       ∙ ap (declared (record { refused = 0; length = 292 })) (front declarations out after n (omega (arith, declarations-292)) w))
+
+  pub declares-both : n ≡ 0 + 292 → after ≡ pasted out 0 declarations → (record { refused = 0; length = n } ≡ declaredIn out .wrote) × (after ≡ declaredIn out .out)
+  declares-both e is =
+      let both = declares e (record { place = omega (arith, e, declarations-292); text = is }) in
+      (ap (λ (x : Declared). x .wrote) both, ap (λ (x : Declared). x .out) both)
 
   pub pieces : (a : Told) (c : Chip) (v x : Wave) (r : Record) → a ≡ told 0 c x n → r ≡ recordOf c → x ≡ waveAfter v r → Written out 0 (pieceOf v r) after n
       → heard a after ≡ wroteTick c v out
@@ -67,3 +72,7 @@ module _ (t s : Answer) (c : Chip) (v : Wave) (out : List ℕ) (r : Told) (is : 
 
   pub by-piece : (after : List ℕ) → t .refused ≡ 0 → 292 ≤ length out → heard r after ≡ wroteTick (t .chip) v out → heard r after ≡ heardBy s c v out
   by-piece after taken room e = wide t c v out r after taken room e ∙ answered
+
+-- the answer and the buffer, each by itself
+pub each : (r : Told) (out : List ℕ) (x : Heard) → heard r out ≡ x → (r ≡ x .told) × (out ≡ x .out)
+each r out x e = (ap (λ (y : Heard). y .told) e, ap (λ (y : Heard). y .out) e)

@@ -4,7 +4,7 @@ ghost use Prim.Native.Nat.{_≤_};
 ghost use lib.ListN.{length};
 ghost use Rattle.memory.specs.Lent.{host};
 ghost use Rattle.line.specs.Line.{levelOf};
-ghost use Rattle.wave.specs.Wave.{recordOf, declared, declaredIn, told, heard, wroteTick, tickHeard};
+ghost use Rattle.wave.specs.Wave.{recordOf, declaredIn, told, heard, wroteTick, tickHeard};
 use chip::Chip;
 use vcd::Record;
 use vcd::Wave;
@@ -56,7 +56,7 @@ pub fn record_of(chip: Chip) -> Record
 
 // The declarations, at the start of the buffer.
 pub fn declare(out: &mut [u8]) -> Wrote
-    ensures { λ r. ⌜ declared r (now (out .exit)) ≡ declaredIn (now (out .entry)) ⌝ }
+    ensures { λ r. ⌜ (r ≡ declaredIn (now (out .entry)) .wrote) × (now (out .exit) ≡ declaredIn (now (out .entry)) .out) ⌝ }
 {
     if out.len() < 292 {
         return Wrote {
@@ -103,7 +103,8 @@ pub fn tick(
     bank: u8,
     out: &mut [u8],
 ) -> Told
-    ensures { λ r. ⌜ heard r (now (out .exit)) ≡ tickHeard (host (now (ram .entry)) (now (rom .entry)) (now (colour .entry)) bank) chip wave (now (out .entry)) ⌝ }
+    ensures { λ r. ⌜ r ≡ tickHeard (host (now (ram .entry)) (now (rom .entry)) (now (colour .entry)) bank) chip wave (now (out .entry)) .told ⌝ }
+    ensures { λ r. ⌜ now (out .exit) ≡ tickHeard (host (now (ram .entry)) (now (rom .entry)) (now (colour .entry)) bank) chip wave (now (out .entry)) .out ⌝ }
 {
     let t = sequencer::tick(chip, ram, rom, colour, bank);
     if t.refused != 0 {

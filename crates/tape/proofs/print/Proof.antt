@@ -4,6 +4,7 @@ use native.Mathlib.Omega.{arith}
 use lib.ListN.{length}
 use borrow.Author.Needs.{needs}
 use Rattle.driver.specs.Driver.{store}
+use Rattle.vcd.proofs.Short.{declarations-292}
 use Rattle.tape.proofs.Turns.{ahead}
 use Rattle.tape.proofs.Blocks.{Prints, begins, begun-at, room-fits, stepped, step-less, run-is, store-is, ends}
 use Rattle.tape.proofs.print.Statement.{statement}
@@ -27,7 +28,7 @@ begun-requires c κs = search needs
 loop-holds : tie.Need-loop-holds Inv-loop μ-loop
 loop-holds c =
     let e = c .before .before .before .declare .ensures in
-    (begins _ _ _ _ _ _ (e .0) (e .1) (omega (arith, c .before .before .before .before .before .before .before .before .before .before .pre)) (c .begun .ensures), omega (arith, begun-at _ _ (c .begun .ensures), e .0, c .before .before .out .given, c .before .before .before .before .before .before .before .before .before .before .pre), search needs, search needs, search needs, search needs)
+    (begins _ _ _ _ _ _ (e .0) (record { place = omega (arith, e .0, declarations-292); text = e .1 }) (omega (arith, c .before .before .before .before .before .before .before .before .before .before .pre)) (c .begun .ensures), omega (arith, begun-at _ _ (c .begun .ensures), e .0, c .before .before .out .given, c .before .before .before .before .before .before .before .before .before .before .pre), search needs, search needs, search needs, search needs)
 
 with-room-requires : tie.Need-with-room-requires Inv-loop μ-loop
 with-room-requires c κs = c .before .before .loop .inv .1

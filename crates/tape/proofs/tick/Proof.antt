@@ -1,3 +1,4 @@
+use Rattle.vcd.proofs.Short.{piece-at-most-88}
 use mathlib.Core.Path.{ap, sym, _∙_}
 use native.Mathlib.Omega.{arith}
 use Rattle.line.proofs.Join.{named-as}
@@ -22,7 +23,7 @@ returns : tie.Need-returns
 returns c =
     let values = c .before .before .before .before .before .record-of .ensures in
     let w = c .before .before .before .piece .ensures in
-    (omega (arith, w .0), c .after .ensures ∙ ap (waveAfter _) values, named-as (ap (pieceOf _) (sym values)) (w .1))
+    (omega (arith, w .0, piece-at-most-88 (c .before .before .before .before .before .before .before .args .wave) (c .before .before .before .before .before .record-of .result)), c .after .ensures ∙ ap (waveAfter _) values, named-as (ap (pieceOf _) (sym values)) (record { place = w .0; text = w .1 }))
 
 pub tick-spec : {M : Type 1} → statement M
 tick-spec =

@@ -1,3 +1,4 @@
+use Rattle.vcd.proofs.Short.{refusal-at-most-34}
 use native.Mathlib.Omega.{arith}
 use Rattle.vcd.proofs.Copy.{nothing}
 use Rattle.tape.specs.Machinery.Tape.{textBy, waveBy}
@@ -49,7 +50,7 @@ returns-4 : tie.Need-returns-4
 unfolding textBy waveBy
 returns-4 c =
     let e = c .before .before .refused .ensures in
-    (omega (arith, e .0), simp (c .before .before .before .before .before .event .given .1), simp (c .before .before .before .before .before .event .given .1) (e .1))
+    (omega (arith, e .0, refusal-at-most-34 (c .before .before .before .before .before .event .given .0 .0) (c .before .before .before .before .before .before .before .before .args .run .done)), simp (c .before .before .before .before .before .event .given .1), simp (c .before .before .before .before .before .event .given .1) (record { place = e .0; text = e .1 }))
 
 pub told-spec : {M : Type 1} → statement M
 told-spec =

@@ -15,7 +15,8 @@ same-length c = search needs
 returns : tie.Need-returns
 unfolding declarations ascii
 returns c =
-    c .before .before .text .ensures
+    let w = c .before .before .text .ensures in
+    (w .0, w .1 .text)
 
 pub declare-spec : {M : Type 1} → statement M
 declare-spec = tie.close (tie.spec slice-aggregate-text text-requires same-length returns)

@@ -1,4 +1,4 @@
-use native.Mathlib.Omega.{arith}
+use Rattle.vcd.proofs.Copy.{apart}
 use Rattle.line.proofs.Join.{named-as}
 use Rattle.vcd.specs.Text.{pieceOf}
 use borrow.Author.Needs.{needs}
@@ -18,7 +18,7 @@ returns : tie.Need-returns
 unfolding pieceOf
 returns c =
     let e = c .before .before .later .ensures in
-    (e .0, named-as (simp (c .before .before .before .before .before .if1 .taken, c .before .before .before .time .ensures)) (e .1))
+    apart (named-as (simp (c .before .before .before .before .before .if1 .taken, c .before .before .before .time .ensures)) (e .1))
 
 first-requires : tie.Need-first-requires
 first-requires c κs = search needs
@@ -30,7 +30,7 @@ returns-2 : tie.Need-returns-2
 unfolding pieceOf
 returns-2 c =
     let e = c .before .before .first .ensures in
-    (omega (arith, e .0), named-as (simp (c .before .before .before .before .if1 .left)) (e .1))
+    apart (named-as (simp (c .before .before .before .before .if1 .left)) (e .1))
 
 pub piece-spec : {M : Type 1} → statement M
 piece-spec =

@@ -1,5 +1,5 @@
+use Rattle.vcd.proofs.Copy.{apart}
 use mathlib.Core.Path.{ap, sym}
-use native.Mathlib.Omega.{arith}
 use Rattle.line.proofs.Join.{on, named-as}
 use Rattle.line.specs.Text.{textOf}
 use Rattle.vcd.specs.Text.{ascii, refusalText}
@@ -39,7 +39,7 @@ returns c =
     let c3 = c .before .before .before .before .before .before .before .put2 .ensures in
     let c4 = c .before .before .text2 .ensures in
     let number = ap (λ n. textOf n 32) (sym (c .before .before .before .before .before .before .before .before .before .before .before .before .wide .ensures)) in
-    (omega (arith, c1 .0, c2 .0, c3 .0, c4 .0), on (c1 .1) (on (named-as number (c2 .1)) (on (c3 .1) (c4 .1))))
+    apart (on (c1 .1) (on (named-as number (c2 .1)) (on (c3 .1) (c4 .1))))
 
 pub refused-spec : {M : Type 1} → statement M
 refused-spec =

@@ -20,7 +20,7 @@ same-length c = search needs
 
 returns : tie.Need-returns
 returns c =
-    pieces _ _ _ (c .before .before .before .before .before .before .before .before .pre) _ _ _ _ _ (c .answer .ensures) (c .before .before .before .before .before .before .record-of .ensures) (c .before .after .ensures) (c .before .before .before .before .piece .ensures .1)
+    pieces _ _ _ (c .before .before .before .before .before .before .before .before .pre) _ _ _ _ _ (c .answer .ensures) (c .before .before .before .before .before .before .record-of .ensures) (c .before .after .ensures) (record { place = c .before .before .before .before .piece .ensures .0; text = c .before .before .before .before .piece .ensures .1 })
 
 pub with-piece-spec : {M : Type 1} → statement M
 with-piece-spec =
