@@ -1,7 +1,7 @@
 -- The dump of a run file, read by a viewer, is the record of each of its ticks. Assumes nothing.
 use Prim.Native.Nat.{ℕ, zero, suc, _+_, _^_, _<_, _≤_}
 use mathlib.Core.Path.{_≡_, refl, sym, _∙_, ap, subst}
-use mathlib.Core.Bool.{Bool, true, false, cond}
+use mathlib.Core.Bool.{Bool, true, false}
 use mathlib.Core.List.{List, [], _∷_, _++_, append-nil}
 use native.Mathlib.Omega.{arith}
 use lib.Dec.{eqb}
@@ -20,7 +20,6 @@ use Rattle.run.specs.Run.{doneOf}
 use Rattle.driver.specs.declared.Run.{Run}
 use Rattle.driver.specs.declared.Event.{Event}
 use Rattle.driver.specs.declared.Event.the-variants as event
-use Rattle.driver.specs.declared.Made.{Made}
 use Rattle.driver.specs.Driver.{Store, hostOf, eventOf, madeBy, madeDoing, madeAt, madeOn, storeAt}
 use Rattle.vcd.specs.declared.Record.{Record}
 use Rattle.vcd.specs.Signals.{Within}
@@ -28,7 +27,7 @@ use Rattle.vcd.specs.Text.{refusalText, dumpText}
 use Rattle.wave.specs.Wave.{recordOf}
 use Rattle.wave.proofs.Thirteen.{tick-number}
 use Rattle.wave.proofs.Widths.{ticked-within}
-use Rattle.tape.specs.Dump.{Played, recordsBy, refusalBy, first, over, played, playedOf, dumpOf}
+use Rattle.tape.specs.Dump.{Played, recordsBy, refusalBy, played, playedOf, dumpOf}
 use Rattle.tape.proofs.Turns.{Over, made-over, is-over}
 use Rattle.viewer.specs.Words.{wordsOf}
 use Rattle.viewer.specs.Reader.{views, start, seenFrom}

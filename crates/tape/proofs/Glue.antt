@@ -1,8 +1,7 @@
 -- A turn from its parts: what the driver made and what was told, by the names of the definitions. Assumes nothing.
 use Prim.Native.Nat.{ℕ, _+_, _≤_}
-use mathlib.Core.Path.{_≡_, refl, sym, _∙_, ap, subst}
+use mathlib.Core.Path.{_≡_, sym, _∙_, ap, subst}
 use mathlib.Core.List.{List}
-use lib.ListN.{length}
 use Rattle.script.specs.declared.Found.{Found}
 use Rattle.driver.specs.declared.Made.{Made}
 use Rattle.driver.specs.Driver.{Store, madeOn, storeAt}

@@ -1,9 +1,7 @@
 // The dump of a run file: what the driver has to tell of each turn, as pieces of text in a lent buffer; and that text written out, a block at a time.
 ghost use mathlib.Core.Path.{_≡_};
-ghost use mathlib.Core.Bool.{true, false};
 ghost use Prim.Native.Nat.{_+_, _≤_};
 ghost use lib.ListN.{length};
-ghost use Rattle.script.specs.Machinery.Cursor.{nextOf};
 ghost use Rattle.line.specs.Text.{Written};
 ghost use Rattle.driver.specs.Driver.{store, storeAt};
 ghost use Rattle.sheet.specs.Chart.{Ends};

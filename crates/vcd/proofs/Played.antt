@@ -9,7 +9,7 @@ use lib.ListN.{length, length-append}
 use lib.Seq.{append-snoc, set-at, getD-at}
 use borrow.Author.Tests.{eqb-true, eqb-false}
 use Rattle.vcd.specs.declared.Record.{Record}
-use Rattle.vcd.specs.Signals.{Change, change, valuesOf, changesFrom, changesOf, played, runChanges, runPlayed, Each, Moved}
+use Rattle.vcd.specs.Signals.{change, valuesOf, changesFrom, changesOf, played, runChanges, runPlayed, Each, Moved}
 
 -- one value more stands before
 on : (pre : List ℕ) (x k : ℕ) → length pre ≡ k → length (pre ++ (x ∷ [])) ≡ suc k

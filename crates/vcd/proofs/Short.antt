@@ -1,6 +1,6 @@
 -- How long a piece is: the declarations are the longest. Assumes nothing.
 use Prim.Native.Nat.{ℕ, zero, suc, _+_, _-_, _/_, _%_, _≤_, _<_}
-use mathlib.Core.Path.{_≡_, refl, sym, ap, subst}
+use mathlib.Core.Path.{_≡_, refl, subst}
 use mathlib.Core.Bool.{Bool, true, false, cond, _||_, not}
 use mathlib.Core.List.{List, [], _∷_, _++_}
 use native.Mathlib.Omega.{arith}
@@ -11,7 +11,7 @@ use Rattle.laws.proofs.Choice.{either}
 use Rattle.line.specs.Text.{textOf}
 use Rattle.vcd.specs.declared.Record.{Record}
 use Rattle.vcd.specs.declared.Wave.{Wave}
-use Rattle.vcd.specs.Signals.{changesOf, allOf}
+use Rattle.vcd.specs.Signals.{allOf}
 use Rattle.vcd.specs.Text.{ascii, declarations, digitsOf, valueText, changesText, markText, firstText, laterText, refusalText, timeOf, pieceOf}
 use Rattle.vcd.specs.Machinery.Steps.{partText, beamText, restText}
 use Rattle.vcd.proofs.Pieces.{all-values, changed-values}

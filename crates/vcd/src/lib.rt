@@ -4,7 +4,6 @@ ghost use mathlib.Core.List.{[], _∷_, _++_};
 ghost use Prim.Native.Nat.{_+_, _-_, _≤_, _<_, _%_};
 ghost use lib.ListN.{length};
 ghost use Rattle.line.specs.Text.{pasted, Written};
-ghost use Rattle.vcd.specs.Signals.{widthOf};
 ghost use Rattle.vcd.specs.Text.{declarations, digitsOf, valueText, markText, firstText, laterText, refusalText, nextTime, timeOf, pieceOf, waveAfter, fresh};
 ghost use Rattle.vcd.specs.Machinery.Steps.{partText, beamText, restText};
 

@@ -1,12 +1,12 @@
 -- What a reader of the text gets back is the record of every tick, one a time unit, and no change that changed nothing. Assumes nothing.
-use Prim.Native.Nat.{ℕ, zero, suc, _+_, _-_, _^_, _<_, _≤_, _/_, _%_}
-use mathlib.Core.Path.{_≡_, refl, sym, _∙_, ap, subst}
-use mathlib.Core.Bool.{Bool, true, false, cond, _&&_}
+use Prim.Native.Nat.{ℕ, suc, _+_, _-_, _^_, _<_, _/_}
+use mathlib.Core.Path.{_≡_, refl, sym, _∙_, ap}
+use mathlib.Core.Bool.{Bool, true, false, cond}
 use mathlib.Core.List.{List, [], _∷_, _++_, map, append-assoc, append-nil}
 use native.Mathlib.Omega.{arith}
 use native.Mathlib.Numerals.{add-one}
-use lib.Dec.{eqb, ltb, leb}
-use lib.ListN.{length, set, getD}
+use lib.Dec.{eqb, ltb}
+use lib.ListN.{length}
 use borrow.Author.Tests.{lt-ltb, ne-eqb}
 use Rattle.laws.proofs.Choice.{either}
 use Rattle.line.specs.Text.{glyphOf, textOf}
@@ -15,7 +15,7 @@ use Rattle.vcd.specs.declared.Wave.{Wave}
 use Rattle.vcd.specs.Signals.{Within, valuesOf, changesOf, allOf}
 use Rattle.vcd.specs.Text.{ascii, declarations, changesText, markText, firstText, laterText, refusalText, nextTime, timeOf, pieceOf, waveAfter, fresh, ticksText, dumpText}
 use Rattle.viewer.specs.Words.{Word, goesOn, before, wordsOf, same}
-use Rattle.viewer.specs.Reader.{Value, Unknown, Is, Body, Aside, State, state, start, numberFrom, areDigits, declared, inHeading, marked, inBody, stepBy, step, Seen, seen, repeated, shown, lastShown, views, seenFrom}
+use Rattle.viewer.specs.Reader.{Value, Unknown, Is, Aside, State, state, start, numberFrom, areDigits, declared, inHeading, marked, inBody, stepBy, step, Seen, seen, repeated, shown, lastShown, views, seenFrom}
 use Rattle.viewer.proofs.Split.{blacks, word-split, still}
 use Rattle.viewer.proofs.Changes.{ours, body}
 use Rattle.viewer.proofs.Ticks.{all-read, moved-read, mark-read}

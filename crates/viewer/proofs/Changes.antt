@@ -1,13 +1,13 @@
 -- A change's text reads back as the change. Assumes nothing.
-use Prim.Native.Nat.{ℕ, zero, suc, _+_, _-_, _^_, _<_, _≤_, _%_}
-use mathlib.Core.Path.{_≡_, refl, sym, _∙_, ap, subst}
-use mathlib.Core.Bool.{Bool, true, false, cond, _&&_}
+use Prim.Native.Nat.{ℕ, zero, suc, _+_, _-_, _^_, _<_, _%_}
+use mathlib.Core.Path.{_≡_, refl, _∙_, ap}
+use mathlib.Core.Bool.{Bool, true}
 use mathlib.Core.List.{List, [], _∷_, _++_, append-assoc}
 use native.Mathlib.Omega.{arith}
-use lib.Dec.{eqb, ltb, leb}
+use lib.Dec.{ltb, leb}
 use lib.ListN.{length, set, getD}
 use borrow.Author.Tests.{le-leb}
-use Rattle.vcd.specs.Signals.{Change, change, widthOf}
+use Rattle.vcd.specs.Signals.{change, widthOf}
 use Rattle.vcd.specs.Text.{ascii, digitsOf, valueText, changeText}
 use Rattle.vcd.proofs.Short.{digits-few}
 use Rattle.viewer.specs.Words.{Word, same, wordsOf}

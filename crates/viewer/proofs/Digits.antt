@@ -1,14 +1,14 @@
 -- A number's digits read back as the number, in any base. Assumes nothing.
-use Prim.Native.Nat.{ℕ, zero, suc, _+_, _*_, _-_, _/_, _%_, _^_, _<_, _≤_}
-use mathlib.Core.Path.{_≡_, refl, sym, _∙_, ap, subst}
+use Prim.Native.Nat.{ℕ, zero, suc, _+_, _*_, _-_, _/_, _%_, _^_, _<_}
+use mathlib.Core.Path.{_≡_, refl, _∙_, ap, subst}
 use mathlib.Core.Bool.{Bool, true, false, cond, _&&_}
-use mathlib.Core.List.{List, [], _∷_, _++_}
+use mathlib.Core.List.{[], _∷_, _++_}
 use native.Mathlib.Omega.{arith}
 use native.Mathlib.Nat.{mod-lt, mod-eq-of-lt, div-add-mod', div-lt-iff-lt-mul, pow-suc, pow-zero, one-mul}
 use lib.Dec.{ltb}
 use lib.ListN.{length, length-append}
 use borrow.Author.Tests.{lt-ltb, ltb-true}
-use Rattle.laws.proofs.Choice.{left, right, either}
+use Rattle.laws.proofs.Choice.{left, right}
 use Rattle.vcd.specs.Text.{digitsOf}
 use Rattle.viewer.specs.Words.{Word}
 use Rattle.viewer.specs.Reader.{numberFrom, areDigits}

@@ -1,17 +1,17 @@
 -- A tick's changes read back: the values are the tick's, and no change changed nothing. Assumes nothing.
-use Prim.Native.Nat.{ℕ, zero, suc, _+_, _-_, _^_, _<_, _≤_}
-use mathlib.Core.Path.{_≡_, refl, sym, _∙_, ap, subst}
+use Prim.Native.Nat.{ℕ, suc, _+_, _-_, _^_, _<_}
+use mathlib.Core.Path.{_≡_, refl, sym, _∙_, ap}
 use mathlib.Core.Bool.{Bool, true, false, cond}
 use mathlib.Core.List.{List, [], _∷_, _++_, map, append-assoc}
 use native.Mathlib.Omega.{arith}
-use lib.Dec.{eqb, ltb, leb}
-use lib.ListN.{length, set, getD, length-append}
+use lib.Dec.{eqb}
+use lib.ListN.{length, length-append}
 use lib.Seq.{append-snoc, set-at, getD-at}
 use borrow.Author.Tests.{eqb-true, lt-ltb, le-leb}
-use Rattle.vcd.specs.Signals.{Change, change, widthOf, WithinFrom, changesFrom, allFrom}
+use Rattle.vcd.specs.Signals.{change, widthOf, WithinFrom, changesFrom, allFrom}
 use Rattle.vcd.specs.Text.{digitsOf, changeText, changesText, markText}
 use Rattle.viewer.specs.Words.{Word, wordsOf}
-use Rattle.viewer.specs.Reader.{Value, Unknown, Is, State, areDigits, numberFrom, staleBy, marked, inBody, stepBy, step, Seen, seen, repeated, shown, views}
+use Rattle.viewer.specs.Reader.{Value, Unknown, Is, State, staleBy, marked, inBody, stepBy, step, Seen, seen, repeated, shown, views}
 use Rattle.viewer.proofs.Split.{word-split}
 use Rattle.viewer.proofs.Digits.{fine, back, some, digits-black}
 use Rattle.viewer.proofs.Changes.{body, change-reads}

@@ -1,10 +1,12 @@
 -- The calls by their parts, in the words of the definitions. Assumes nothing.
-use Prim.Native.Nat.{ℕ, _+_, _≤_, _<_}
+use Prim.Native.Nat.{ℕ, _+_, _≤_}
 use mathlib.Core.Path.{_≡_, refl, sym, _∙_, ap}
+use mathlib.Core.Bool.{Bool, true, false, cond}
 use mathlib.Core.List.{List, _++_}
 use native.Mathlib.Omega.{arith}
+use lib.Dec.{eqb, ltb}
 use lib.ListN.{length, drop}
-use borrow.Author.Tests.{lt-ltb, le-ltb, eq-eqb, ne-eqb}
+use borrow.Author.Tests.{le-ltb, ltb-false, eqb-false, eq-eqb, ne-eqb}
 use Rattle.line.specs.Text.{Written, pasted}
 use Rattle.chip.specs.declared.Chip.{Chip}
 use Rattle.chip.specs.declared.Answer.{Answer}
@@ -13,9 +15,8 @@ use Rattle.vcd.specs.declared.Wave.{Wave}
 use Rattle.vcd.specs.Text.{declarations, pieceOf, waveAfter}
 use Rattle.vcd.proofs.Copy.{pasted-is}
 use Rattle.vcd.proofs.Short.{declarations-292, piece-at-most-88}
-use Rattle.wave.specs.declared.Wrote.{Wrote}
 use Rattle.wave.specs.declared.Told.{Told}
-use Rattle.wave.specs.Wave.{recordOf, over, Declared, declared, declaredIn, told, Heard, heard, wroteTick, heardBy}
+use Rattle.wave.specs.Wave.{recordOf, over, Declared, declared, declaredIn, told, Heard, heard, wroteTick, numberOf, heardWith}
 
 module _ (text out after : List ℕ) (n : ℕ) (fits : length text ≤ length out) (w : Written out 0 text after n) where
   front : after ≡ over text out
@@ -47,31 +48,35 @@ module _ (out after : List ℕ) (n : ℕ) (room : 292 ≤ length out) where
       ∙ ap (heard (told 0 c (waveAfter v r) (length p))) (front p out after n (omega (arith, piece-at-most-88 v r)) w)
       ∙ ap (λ (y : Record). heard (told 0 c (waveAfter v y) (length (pieceOf v y))) (over (pieceOf v y) out)) is
 
-module _ (t : Answer) (c : Chip) (v : Wave) (out : List ℕ) where
-  number : (r : Told) → (t .refused ≡ 0 → ⊥) → r ≡ told (t .refused) c v 0 → heard r out ≡ heardBy t c v out
-  unfolding heardBy
-  number r not e = simp (ne-eqb (t .refused) 0 not) (ap (λ (x : Told). heard x out) e)
+-- no refusal leaves room for a piece
+by-room : (refused room : ℕ) (taken short : Bool) → eqb refused 0 ≡ taken → ltb room 292 ≡ short → cond taken (cond short 13 0) refused ≡ 0 → 292 ≤ room
+by-room refused room true true e s n = absurd (omega arith)
+by-room refused room true false e s n = ltb-false room 292 s
+by-room refused room false short e s n = absurd (eqb-false refused 0 e n)
 
-  short : (r : Told) → t .refused ≡ 0 → length out < 292 → r ≡ told 13 c v 0 → heard r out ≡ heardBy t c v out
-  unfolding heardBy
-  short r taken few e = simp (eq-eqb (t .refused) 0 taken, lt-ltb (length out) 292 few) (ap (λ (x : Told). heard x out) e)
+pub has-room : (n refused room : ℕ) → n ≡ numberOf refused room → n ≡ 0 → 292 ≤ room
+unfolding numberOf
+has-room n refused room is none = by-room refused room (eqb refused 0) (ltb room 292) refl refl (sym is ∙ none)
 
-  wide : (r : Told) (after : List ℕ) → t .refused ≡ 0 → 292 ≤ length out → heard r after ≡ wroteTick (t .chip) v out → heard r after ≡ heardBy t c v out
-  unfolding heardBy
-  wide r after taken room e = simp (eq-eqb (t .refused) 0 taken, le-ltb (length out) 292 room) e
+module _ (t s : Answer) (c : Chip) (v : Wave) (out : List ℕ) (r : Told) (n : ℕ) (is : t ≡ s) (counts : n ≡ numberOf (t .refused) (length out)) where
+  whole : heardWith n t c v out ≡ heardWith (numberOf (s .refused) (length out)) s c v out
+  whole =
+      ap (λ (k : ℕ). heardWith k t c v out) counts
+      ∙ ap (λ (x : Answer). heardWith (numberOf (x .refused) (length out)) x c v out) is
 
-module _ (t s : Answer) (c : Chip) (v : Wave) (out : List ℕ) (r : Told) (is : t ≡ s) where
-  answered : heardBy t c v out ≡ heardBy s c v out
-  answered = ap (λ (x : Answer). heardBy x c v out) is
+  refusal : (n ≡ 0 → ⊥) → r ≡ told n c v 0 → heard r out ≡ heardWith n t c v out
+  unfolding heardWith
+  refusal some e = simp (ne-eqb n 0 some) (ap (λ (x : Told). heard x out) e)
 
-  pub by-number : (t .refused ≡ 0 → ⊥) → r ≡ told (t .refused) c v 0 → heard r out ≡ heardBy s c v out
-  by-number not e = number t c v out r not e ∙ answered
+  piece : (after : List ℕ) → n ≡ 0 → heard r after ≡ wroteTick (t .chip) v out → heard r after ≡ heardWith n t c v out
+  unfolding heardWith
+  piece after none e = simp (eq-eqb n 0 none) e
 
-  pub by-13 : t .refused ≡ 0 → length out < 292 → r ≡ told 13 c v 0 → heard r out ≡ heardBy s c v out
-  by-13 taken few e = short t c v out r taken few e ∙ answered
+  pub by-refusal : (n ≡ 0 → ⊥) → r ≡ told n c v 0 → heard r out ≡ heardWith (numberOf (s .refused) (length out)) s c v out
+  by-refusal some e = refusal some e ∙ whole
 
-  pub by-piece : (after : List ℕ) → t .refused ≡ 0 → 292 ≤ length out → heard r after ≡ wroteTick (t .chip) v out → heard r after ≡ heardBy s c v out
-  by-piece after taken room e = wide t c v out r after taken room e ∙ answered
+  pub by-piece : (after : List ℕ) → n ≡ 0 → heard r after ≡ wroteTick (t .chip) v out → heard r after ≡ heardWith (numberOf (s .refused) (length out)) s c v out
+  by-piece after none e = piece after none e ∙ whole
 
 -- the answer and the buffer, each by itself
 pub each : (r : Told) (out : List ℕ) (x : Heard) → heard r out ≡ x → (r ≡ x .told) × (out ≡ x .out)

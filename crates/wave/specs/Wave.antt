@@ -68,12 +68,13 @@ wroteTick c w out =
     let r = recordOf c in
     heard (told 0 c (waveAfter w r) (length (pieceOf w r))) (over (pieceOf w r) out)
 
--- 02 (i): 1 to 4 as the tick gives them; 13 comes after them; each with chip, dump and buffer as they were
-unfoldable pub heardBy : Answer → Chip → Wave → List ℕ → Heard
-heardBy t c w out =
-    cond (eqb (t .refused) 0)
-    (cond (ltb (length out) 292) (heard (told 13 c w 0) out) (wroteTick (t .chip) w out))
-    (heard (told (t .refused) c w 0) out)
+-- 02 (i): 1 to 4 as the tick gives them; 13 comes after them
+unfoldable pub numberOf : ℕ → ℕ → ℕ
+numberOf refused room = cond (eqb refused 0) (cond (ltb room 292) 13 0) refused
+
+-- a refusal leaves chip, dump and buffer as they were
+unfoldable pub heardWith : ℕ → Answer → Chip → Wave → List ℕ → Heard
+heardWith number t c w out = cond (eqb number 0) (wroteTick (t .chip) w out) (heard (told number c w 0) out)
 
 abbrev pub tickHeard : Host → Chip → Wave → List ℕ → Heard
-tickHeard h c w out = heardBy (ticked h c) c w out
+tickHeard h c w out = heardWith (numberOf (ticked h c .refused) (length out)) (ticked h c) c w out

@@ -4,7 +4,7 @@ ghost use Prim.Native.Nat.{_≤_};
 ghost use lib.ListN.{length};
 ghost use Rattle.memory.specs.Lent.{host};
 ghost use Rattle.line.specs.Line.{levelOf};
-ghost use Rattle.wave.specs.Wave.{recordOf, declaredIn, told, heard, wroteTick, tickHeard};
+ghost use Rattle.wave.specs.Wave.{recordOf, declaredIn, told, heard, wroteTick, numberOf, tickHeard};
 use chip::Chip;
 use vcd::Record;
 use vcd::Wave;
@@ -93,6 +93,19 @@ fn with_piece(chip: Chip, wave: Wave, out: &mut [u8]) -> Told
     answer(0, chip, next, n)
 }
 
+// The number of the tick's refusal, and 13 after it.
+fn number(refused: u8, room: usize) -> u8
+    ensures { λ r. ⌜ r ≡ numberOf refused room ⌝ }
+{
+    if refused != 0 {
+        return refused;
+    }
+    if room < 292 {
+        return 13;
+    }
+    0
+}
+
 // One tick, and its piece at the start of the buffer.
 pub fn tick(
     chip: Chip,
@@ -107,11 +120,9 @@ pub fn tick(
     ensures { λ r. ⌜ now (out .exit) ≡ tickHeard (host (now (ram .entry)) (now (rom .entry)) (now (colour .entry)) bank) chip wave (now (out .entry)) .out ⌝ }
 {
     let t = sequencer::tick(chip, ram, rom, colour, bank);
-    if t.refused != 0 {
-        return answer(t.refused, chip, wave, 0);
-    }
-    if out.len() < 292 {
-        return answer(13, chip, wave, 0);
+    let n = number(t.refused, out.len());
+    if n != 0 {
+        return answer(n, chip, wave, 0);
     }
     let next = t.chip;
     with_piece(next, wave, out)
