@@ -3,7 +3,6 @@ ghost use mathlib.Core.Path.{_≡_};
 ghost use Prim.Native.Nat.{_≤_};
 ghost use lib.ListN.{length};
 ghost use Rattle.memory.specs.Lent.{host};
-ghost use Rattle.line.specs.Line.{levelOf};
 ghost use Rattle.wave.specs.Wave.{recordOf, declaredIn, told, heard, wroteTick, numberOf, tickHeard};
 use chip::Chip;
 use vcd::Record;
@@ -23,16 +22,7 @@ pub struct Told {
     pub length: usize,
 }
 
-fn level(low: bool) -> u16
-    ensures { λ r. ⌜ r ≡ levelOf low ⌝ }
-{
-    if low {
-        return 0;
-    }
-    1
-}
-
-// A chip's values after a tick.
+// A chip's values after a tick: 0 is low, and the interrupt line is low while the chip asks.
 pub fn record_of(chip: Chip) -> Record
     ensures { λ r. ⌜ r ≡ recordOf chip ⌝ }
 {
@@ -45,12 +35,12 @@ pub fn record_of(chip: Chip) -> Record
     Record {
         cycle: beam.cycle,
         raster: beam.raster,
-        ba: level(bus.balow),
-        aec: level(bus.aeclow),
+        ba: laws::pick16(bus.balow, 0, 1),
+        aec: laws::pick16(bus.aeclow, 0, 1),
         dma: laws::wide(sprites.dma) % 256,
         rc: laws::wide(rows.rc),
         vc: rows.vc,
-        irq: level(irq.line),
+        irq: laws::pick16(irq.line, 0, 1),
     }
 }
 
