@@ -1,15 +1,16 @@
 -- What callers may know of the line and the frame without opening them. Assumes nothing.
 use Prim.Native.Nat.{ℕ, _≤_}
-use mathlib.Core.Path.{_≡_}
-use mathlib.Core.Bool.{Bool, false}
+use mathlib.Core.Path.{_≡_, _∙_}
+use mathlib.Core.Bool.{Bool, true, false, not, _&&_}
 use native.Mathlib.Omega.{arith}
-use Rattle.laws.proofs.Choice.{either, and-true, picks, pick-either, never-both}
+use lib.Dec.{eqb}
+use Rattle.laws.proofs.Choice.{either, and-true, and-false, or-false, picks, pick-either, never-both}
 use Rattle.schedule.specs.Kind.{lastLine}
-use Rattle.schedule.specs.Diagram.{happens, lineBegins}
+use Rattle.schedule.specs.Diagram.{happens, lineBegins, frameEnds}
 use Rattle.schedule.proofs.Parts.{Later}
 use Rattle.registers.specs.declared.Irq.{Irq}
-use Rattle.timing.specs.Beam.{latched}
-use Rattle.timing.proofs.Kept.{line-high}
+use Rattle.timing.specs.Beam.{latched, nextLine, atLastLine}
+use Rattle.timing.proofs.Kept.{line-high, latch-stays, latch-stored}
 use Rattle.raster.specs.declared.Frame.{Frame}
 use Rattle.raster.specs.declared.Swept.{Swept}
 use Rattle.raster.specs.Frame.{rasterBegun, matchRaises, frameBegun, frameEnded, raised, swept}
@@ -19,6 +20,30 @@ pub raster-kept : (f : Frame) (i : Irq) (cycle r compare : ℕ) (den latch : Boo
 unfolding swept rasterBegun
 raster-kept f i cycle r compare den latch h =
     pick-either (λ (n : ℕ). n ≤ lastLine) _ (omega arith) (either (λ (n : ℕ). n ≤ lastLine) (happens lineBegins cycle) (line-high r h) h)
+
+-- where no line begins and the frame flag is clear, the line, the frame and the interrupt stay
+pub swept-inside : (f : Frame) (i : Irq) (cycle raster compare : ℕ) (den latch : Bool) → happens lineBegins cycle ≡ false → f .ending ≡ false
+    → _≡_ {A = Swept} (record { begins = false; line = raster; wraps = false; raster = raster; latch = latched false raster den latch; kept = latched false raster den latch; frame = f; irq = i }) (swept f i cycle raster compare den latch)
+unfolding swept rasterBegun matchRaises frameBegun frameEnded raised
+swept-inside f i cycle raster compare den latch b e =
+    rw (b, e, and-false (happens frameEnds cycle), never-both (f .matched), picks false 0 raster, and-true (latched false raster den latch))
+
+-- line 0x30 begins: it stores DEN
+pub record Stored (den : Bool) (w : Swept) : Type 0 where
+  pub raster : w .raster ≡ 0x30
+  pub kept : w .kept ≡ den
+  pub ending : w .frame .ending ≡ false
+
+pub swept-stores : (f : Frame) (i : Irq) (compare : ℕ) (den latch : Bool) → f .ending ≡ false → Stored den (swept f i 1 0x2F compare den latch)
+unfolding swept rasterBegun frameBegun frameEnded happens nextLine atLastLine
+swept-stores f i compare den latch e =
+    record { raster = picks false 0 0x30; kept = and-true (latched true 0x30 den latch) ∙ latch-stored den latch; ending = rw (or-false (f .ending)) e }
+
+-- off line 0x30 the latch stays but for the frame's end
+pub kept-elsewhere : (f : Frame) (i : Irq) (cycle before compare : ℕ) (den latch : Bool) → eqb (swept f i cycle before compare den latch .line) 0x30 ≡ false
+    → swept f i cycle before compare den latch .kept ≡ (latch && not (swept f i cycle before compare den latch .wraps))
+unfolding swept
+kept-elsewhere f i cycle before compare den latch e = rw (latch-stays (happens lineBegins cycle) _ den latch e)
 
 -- past the second cycle the line, the frame and the interrupt stay
 pub swept-later : (f : Frame) (i : Irq) (cycle raster compare : ℕ) (den latch : Bool) → Later cycle

@@ -3,11 +3,12 @@ use mathlib.Core.Path.{_≡_, subst}
 use mathlib.Core.Bool.{Bool, true, false, _&&_, _||_, cond}
 use Prim.Native.Nat.{ℕ, zero, suc, _+_, _-_, _<_, _≤_}
 use native.Mathlib.Omega.{arith}
+use borrow.Author.Tests.{ne-eqb}
 use lib.Dec.{T, leb, leb→le}
 use Rattle.laws.proofs.Choice.{either}
 use Rattle.laws.proofs.Below as Below
 use Rattle.schedule.specs.Kind.{lastCycle}
-use Rattle.schedule.specs.Diagram.{happens, firstOf, vcLoad, characterAccess, vmliCounts, graphicsAccess, slotSprite, slotBelow, onLine, during, diagram, pointerOf, dataOf}
+use Rattle.schedule.specs.Diagram.{happens, firstOf, lineBegins, vcLoad, characterAccess, vmliCounts, graphicsAccess, slotSprite, slotBelow, onLine, during, diagram, pointerOf, dataOf}
 
 below : (n c : ℕ) → slotBelow n c ≤ n
 below zero c = omega arith
@@ -22,6 +23,11 @@ below-one n c =
 pub slot-small : (c : ℕ) → slotSprite c < 8
 unfolding slotSprite
 slot-small c = either (λ (k : ℕ). k < 8) (onLine c) (omega (arith, below-one 7 c)) (omega arith)
+
+-- a line begins in no cycle after its first
+pub not-begun : (c : ℕ) → 1 ≤ c → happens lineBegins (c + 1) ≡ false
+unfolding happens
+not-begun c h = ne-eqb (c + 1) 1 (λ (e : c + 1 ≡ 1). omega arith)
 
 -- no graphics access in the cycle that loads VC and clears VMLI
 pub load-alone : (c : ℕ) → c ≤ lastCycle → happens vcLoad c ≡ true → happens graphicsAccess c ≡ false

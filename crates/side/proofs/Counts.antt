@@ -34,6 +34,7 @@ use Rattle.side.proofs.Parts.{border-past, sprites-mid, lit-glue}
 -- the test, and where on the line it is used
 pub record Counts (yscroll : ℕ) (s : Side) : Type 0 where
   pub bad : badLine (s .beam .raster) yscroll (s .beam .latch) ≡ false
+  pub line : eqb (s .beam .raster) 0x30 ≡ false
   pub balow : s .bus .balow ≡ false
   pub aeclow : s .bus .aeclow ≡ false
   pub transition : s .rows .transition ≡ false
@@ -45,19 +46,22 @@ pub counts : (yscroll : ℕ) (s : Side) → onlyCounts yscroll s ≡ true → 18
 unfolding onlyCounts
 counts yscroll s e l h =
     let a = not (badLine (s .beam .raster) yscroll (s .beam .latch)) in
+    let z = not (eqb (s .beam .raster) 0x30) in
     let b = not (s .bus .balow) in
     let c = not (s .bus .aeclow) in
     let d = not (s .rows .transition) in
     let f = not (s .rows .access) in
-    let four = left (a && b && c && d) f e in
-    let three = left (a && b && c) d four in
-    let two = left (a && b) c three in
+    let five = left (a && z && b && c && d) f e in
+    let four = left (a && z && b && c) d five in
+    let three = left (a && z && b) c four in
+    let two = left (a && z) b three in
     record {
-      bad = not-true (badLine (s .beam .raster) yscroll (s .beam .latch)) (left a b two);
-      balow = not-true (s .bus .balow) (right a b two);
-      aeclow = not-true (s .bus .aeclow) (right (a && b) c three);
-      transition = not-true (s .rows .transition) (right (a && b && c) d four);
-      access = not-true (s .rows .access) (right (a && b && c && d) f e);
+      bad = not-true (badLine (s .beam .raster) yscroll (s .beam .latch)) (left a z two);
+      line = not-true (eqb (s .beam .raster) 0x30) (right a z two);
+      balow = not-true (s .bus .balow) (right (a && z) b three);
+      aeclow = not-true (s .bus .aeclow) (right (a && z && b) c four);
+      transition = not-true (s .rows .transition) (right (a && z && b && c) d five);
+      access = not-true (s .rows .access) (right (a && z && b && c && d) f e);
       low = l;
       high = h;
     }
@@ -106,19 +110,19 @@ quiet-turn g s e =
     let m = on-line s (g .yscroll) e in
     let l = lit cycle (m .graphics) in
     lit-glue g s l refl refl refl (border-past cycle (s .beam .raster) (g .den) (g .csel) (s .border) l (m .past))
-    (sprites-mid cycle (s .beam .raster) (g .my) (g .enable) (g .yexp) (s .sprites) l m) (beam-moved (s .beam) cycle (g .den) (g .rsel) (g .yscroll) (e .bad))
+    (sprites-mid cycle (s .beam .raster) (g .my) (g .enable) (g .yexp) (s .sprites) l m) (beam-moved (s .beam) cycle (g .den) (g .rsel) (g .yscroll) (e .line) (e .bad))
     (matrix-alone true (s .sprites .dma) cycle (m .asks)) (free-bus (s .bus) (e .balow)) refl refl
     (rows-mid cycle (s .rows) l m (e .transition) (e .access)) (none-missed _ (s .pending))
 
 -- a leap changes none of what the test looks at
 pub counts-later : (g : Controls) (s : Side) (k : ℕ) → Counts (g .yscroll) s → s .beam .cycle + k ≤ 53 → Counts (g .yscroll) (leapt k s)
-counts-later g s k e h = record { bad = e .bad; balow = e .balow; aeclow = e .aeclow; transition = e .transition; access = e .access; low = omega (arith, e .low); high = h }
+counts-later g s k e h = record { bad = e .bad; line = e .line; balow = e .balow; aeclow = e .aeclow; transition = e .transition; access = e .access; low = omega (arith, e .low); high = h }
 
 -- nor does the tick
 pub counts-on : (g : Controls) (s : Side) → Counts (g .yscroll) s → s .beam .cycle + 1 ≤ 53 → Counts (g .yscroll) (quiet g s .side)
 counts-on g s e h =
     let next = cycle-next (s .beam .cycle) (omega arith) in
-    record { bad = e .bad; balow = refl; aeclow = refl; transition = refl; access = refl; low = rw next (omega (arith, e .low)); high = rw next h }
+    record { bad = e .bad; line = e .line; balow = refl; aeclow = refl; transition = refl; access = refl; low = rw next (omega (arith, e .low)); high = rw next h }
 
 -- what is counted after the tick, or before it
 pub quiet-later : (g : Controls) (s : Side) (k : ℕ) → Counts (g .yscroll) s → inRange (s .bus .clock) → quiet g (leapt k (quiet g s .side)) ≡ quiet g (leapt (suc k) s)

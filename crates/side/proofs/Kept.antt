@@ -1,6 +1,6 @@
 -- A tick keeps the timing side of a state we accept as such a state has it, and power-up gives one. Assumes nothing.
 use Prim.Native.Nat.{ℕ, _≤_}
-use mathlib.Core.Path.{_≡_, sym, subst, _∙_}
+use mathlib.Core.Path.{_≡_, refl, sym, subst, _∙_}
 use mathlib.Core.Bool.{Bool, cond}
 use mathlib.Core.List.{List}
 use native.Mathlib.Omega.{arith}
@@ -10,7 +10,9 @@ use Rattle.schedule.specs.Kind.{lastCycle, lastLine}
 use Rattle.schedule.specs.Diagram.{happens, mcbaseStep, firstPhase, secondPhase, mcLoad, pointerTime, dataTime}
 use Rattle.registers.specs.declared.Controls.{Controls}
 use Rattle.timing.specs.Beam.{nextCycle}
-use Rattle.timing.proofs.Kept.{cycle-low, cycle-high, turned-cycle, turned-raster, fresh-cycle, fresh-raster}
+use Rattle.timing.proofs.Kept.{cycle-low, cycle-high, turned-cycle, turned-raster, turned-latch, fresh-cycle, fresh-raster}
+use Rattle.raster.specs.declared.Swept.{Swept}
+use Rattle.raster.specs.Frame.{swept}
 use Rattle.raster.proofs.Laws.{raster-kept}
 use Rattle.sprites.specs.declared.Sprites.{Sprites}
 use Rattle.sprites.specs.Fine.{FineSprites}
@@ -54,6 +56,22 @@ module _ (g : Controls) (s : Side) where
   pub side-cycle : turned g s .side .beam .cycle ≡ nextCycle (s .beam .cycle)
   unfolding turned
   side-cycle = turned-cycle (s .beam) _ _ _ _ _ _ _ _
+
+  -- what the line and the frame do in the tick
+  abbrev pub sweep : Swept
+  sweep = swept (s .frame) (s .irq) (nextCycle (s .beam .cycle)) (s .beam .raster) (g .compare) (g .den) (s .beam .latch)
+
+  pub side-raster : turned g s .side .beam .raster ≡ sweep .raster
+  unfolding turned
+  side-raster = turned-raster (s .beam) _ _ _ _ _ _ _ _
+
+  pub side-latch : turned g s .side .beam .latch ≡ sweep .kept
+  unfolding turned
+  side-latch = turned-latch (s .beam) _ _ _ _ _ _ _ _
+
+  pub side-frame : turned g s .side .frame ≡ sweep .frame
+  unfolding turned
+  side-frame = refl
 
   pub side-clock : turned g s .side .bus .clock ≡ clockOn 1 (s .bus .clock)
   unfolding turned

@@ -474,7 +474,7 @@ pub fn only_counts(side: Side, yscroll: u8) -> bool
     let bus = side.bus;
     let rows = side.rows;
     let bad = timing::bad_line(beam.raster, yscroll, beam.latch);
-    !bad & !bus.balow & !bus.aeclow & !rows.transition & !rows.access
+    !bad & (beam.raster != 0x30) & !bus.balow & !bus.aeclow & !rows.transition & !rows.access
 }
 
 // Some such ticks on.

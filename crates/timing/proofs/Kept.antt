@@ -1,11 +1,11 @@
 -- What the next cycle and the next line are, that they stay on the line and in the frame, and where a tick leaves the beam. Assumes nothing.
 use Prim.Native.Nat.{ℕ, _+_, _<_, _≤_}
-use mathlib.Core.Path.{_≡_, refl}
-use mathlib.Core.Bool.{Bool, true, false}
+use mathlib.Core.Path.{_≡_, refl, sym, _∙_, ap}
+use mathlib.Core.Bool.{Bool, true, false, not, _&&_, _||_, cond}
 use native.Mathlib.Omega.{arith}
 use borrow.Author.Tests.{ltb-true, lt-ltb, le-ltb}
-use lib.Dec.{ltb}
-use Rattle.laws.proofs.Choice.{either, by-test, picks}
+use lib.Dec.{eqb, ltb}
+use Rattle.laws.proofs.Choice.{either, by-test, and-true, and-false, picks}
 use Rattle.schedule.specs.Kind.{lastCycle, lastLine}
 use Rattle.timing.specs.declared.Beam.{Beam}
 use Rattle.timing.specs.Set.{cycle≔, den≔, rsel≔, yscroll≔, bad≔, rising≔, ba≔}
@@ -40,14 +40,46 @@ module _ (b : Beam) (cycle line : ℕ) (latch kept : Bool) (raster : ℕ) (den r
   unfolding beamTurned
   turned-raster = refl
 
--- on a line that is not bad, past its begin, the cycle moves on and the control bits are latched
+  pub turned-latch : beamTurned b cycle line latch kept raster den rsel yscroll .latch ≡ kept
+  unfolding beamTurned
+  turned-latch = refl
+
+-- the latch's rule without a choice
+chosen : (here begins den latch : Bool) → ((here && den) || (latch && not (begins && here))) ≡ cond here (den || (latch && not begins)) latch
+chosen true true den latch = refl
+chosen true false den latch = refl
+chosen false true den true = refl
+chosen false true den false = refl
+chosen false false den true = refl
+chosen false false den false = refl
+
+pub latch-set : (begins : Bool) (line : ℕ) (den latch : Bool) → ((eqb line 0x30 && den) || (latch && not (begins && eqb line 0x30))) ≡ latched begins line den latch
+unfolding latched
+latch-set begins line den latch = chosen (eqb line 0x30) begins den latch ∙ sym (picks (eqb line 0x30) (den || (latch && not begins)) latch)
+
+-- off line 0x30 the latch stays
+pub latch-stays : (begins : Bool) (line : ℕ) (den latch : Bool) → eqb line 0x30 ≡ false → latched begins line den latch ≡ latch
+unfolding latched
+latch-stays begins line den latch e = rw (e, picks false (den || (latch && not begins)) latch)
+
+-- on it the first cycle stores DEN, and a later one adds it
+pub latch-stored : (den latch : Bool) → latched true 0x30 den latch ≡ den
+unfolding latched
+latch-stored true latch = picks true _ latch
+latch-stored false latch = picks true (latch && false) latch ∙ and-false latch
+
+pub latch-added : (den latch : Bool) → latched false 0x30 den latch ≡ (den || latch)
+unfolding latched
+latch-added den latch = picks true (den || (latch && true)) latch ∙ ap (λ (b : Bool). den || b) (and-true latch)
+
+-- on another line than 0x30 that is not bad, past its begin, the cycle moves on and the control bits are latched
 abbrev pub moved : Beam → ℕ → Bool → Bool → ℕ → Beam
 moved b cycle den rsel yscroll = cycle≔ cycle (den≔ den (rsel≔ rsel (yscroll≔ yscroll (bad≔ false (rising≔ false (ba≔ true b))))))
 
-pub beam-moved : (b : Beam) (cycle : ℕ) (den rsel : Bool) (yscroll : ℕ) → badLine (b .raster) yscroll (b .latch) ≡ false
+pub beam-moved : (b : Beam) (cycle : ℕ) (den rsel : Bool) (yscroll : ℕ) → eqb (b .raster) 0x30 ≡ false → badLine (b .raster) yscroll (b .latch) ≡ false
     → moved b cycle den rsel yscroll ≡ beamTurned b cycle (b .raster) (latched false (b .raster) den (b .latch)) (latched false (b .raster) den (b .latch)) (b .raster) den rsel yscroll
-unfolding beamTurned latched baOutput
-beam-moved b cycle den rsel yscroll e = rw (picks false den (b .latch), e)
+unfolding beamTurned baOutput
+beam-moved b cycle den rsel yscroll l e = rw (latch-stays false (b .raster) den (b .latch) l, e)
 
 -- power-up is in the last cycle of the last line
 pub fresh-cycle : fresh .cycle ≡ lastCycle

@@ -1,6 +1,6 @@
 -- The beam and the bad line.
 use Prim.Native.Nat.{ℕ, _+_, _%_}
-use mathlib.Core.Bool.{Bool, true, false, not, _&&_, cond}
+use mathlib.Core.Bool.{Bool, true, false, not, _&&_, _||_, cond}
 use lib.Dec.{eqb, leb, ltb}
 use Rattle.laws.specs.Pick.{pick}
 use Rattle.schedule.specs.Kind.{lastCycle, lastLine}
@@ -11,9 +11,9 @@ use Rattle.timing.specs.declared.Beam.{Beam}
 unfoldable pub badLine : ℕ → ℕ → Bool → Bool
 badLine raster yscroll latch = leb 0x30 raster && leb raster 0xF7 && eqb (raster % 8) yscroll && latch
 
--- Bauer 3.5, and departs, DIFFERENCES 2: DEN is latched on line 0x30, where the line begins and there only
+-- Bauer 3.5, and 02 (ii): DEN set in any cycle of line 0x30 is enough. The line's first cycle stores DEN, a later one sets the latch and never clears it
 unfoldable pub latched : Bool → ℕ → Bool → Bool → Bool
-latched begins line den latch = pick (begins && eqb line 0x30) den latch
+latched begins line den latch = pick (eqb line 0x30) (den || (latch && not begins)) latch
 
 -- Bauer 3.7.2 rule 3: a bad line holds BA low while the matrix asks; true is high
 unfoldable pub baOutput : Bool → ℕ → Bool

@@ -24,11 +24,12 @@ pub fn bad_line(raster: u16, yscroll: u8, latch: bool) -> bool
     (0x30 <= raster) & (raster <= 0xF7) & (raster % 8 == laws::wide(yscroll)) & latch
 }
 
-// The DEN latch: line 0x30 stores DEN where it begins.
+// The DEN latch: line 0x30 stores DEN where it begins, and a set DEN sets it later.
 pub fn latched(begins: bool, line: u16, den: bool, latch: bool) -> bool
     ensures { λ r. ⌜ r ≡ latched begins line den latch ⌝ }
 {
-    laws::pick_bool(begins & (line == 0x30), den, latch)
+    let here = line == 0x30;
+    (here & den) | (latch & !(begins & here))
 }
 
 // The level of the BA output: low where a bad line asks for the matrix.

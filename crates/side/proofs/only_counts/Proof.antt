@@ -8,7 +8,7 @@ bad-line-requires c κs = search needs
 
 returns : tie.Need-returns
 unfolding onlyCounts
-returns c = rw (c .before .before .before .before .bad-line .ensures)
+returns c = rw (c .before .before .before .before .before .bad-line .ensures)
 
 pub only-counts-spec : {M : Type 1} → statement M
 only-counts-spec = tie.close (tie.spec bad-line-requires returns)

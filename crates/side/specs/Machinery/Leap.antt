@@ -2,6 +2,7 @@
 -- No rules: what private functions hand on where a run of ticks is worked fast.
 use Prim.Native.Nat.{ℕ, _+_}
 use mathlib.Core.Bool.{Bool, not, _&&_}
+use lib.Dec.{eqb}
 use Rattle.timing.specs.Beam.{badLine}
 use Rattle.timing.specs.Set.{cycle≔}
 use Rattle.arbitration.specs.Bus.{clockOn}
@@ -10,10 +11,11 @@ use Rattle.rows.specs.Rows.{rowsLater}
 use Rattle.side.specs.declared.Side.{Side}
 use Rattle.side.specs.Set.{beam≔, bus≔, rows≔}
 
--- no bad line, the bus the CPU's already, no transition pending and no character access left
+-- no bad line and not the line that latches DEN, the bus the CPU's already, no transition pending and no character access left
 unfoldable pub onlyCounts : ℕ → Side → Bool
 onlyCounts yscroll s =
     not (badLine (s .beam .raster) yscroll (s .beam .latch))
+    && not (eqb (s .beam .raster) 0x30)
     && not (s .bus .balow)
     && not (s .bus .aeclow)
     && not (s .rows .transition)

@@ -1,14 +1,12 @@
 use Rattle.timing.specs.Beam.{latched}
-use borrow.Author.Needs.{needs}
+use Rattle.timing.proofs.Kept.{latch-set}
 use Rattle.timing.proofs.latched.Statement.{statement}
 use Rattle.timing.proofs.latched.Tie as tie
 
-pick-bool-requires : tie.Need-pick-bool-requires
-pick-bool-requires c κs = search needs
-
 returns : tie.Need-returns
-unfolding latched
-returns c = c .pick-bool .ensures
+returns c =
+    let start = c .args in
+    latch-set (start .begins) (start .line) (start .den) (start .latch)
 
 pub latched-spec : {M : Type 1} → statement M
-latched-spec = tie.close (tie.spec pick-bool-requires returns)
+latched-spec = tie.close (tie.spec returns)

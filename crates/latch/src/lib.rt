@@ -1,0 +1,1 @@
+// The DEN latch over the ticks of a line: definitions and theorems alone.
