@@ -1,12 +1,13 @@
 //! The program `chart` of docs/SCOPE.md, with the original as the chip.
 
+use crate::late::Met;
 use crate::play::{play, Event};
 use crate::vic::glue::Machine;
 use std::io::{self, Write};
 
 /// Charts a run file.
-pub fn chart(bytes: &[u8], output: &mut impl Write) -> io::Result<()> {
-    play(bytes, |event| match event {
+pub fn chart(bytes: &[u8], output: &mut impl Write, alone: bool) -> io::Result<Met> {
+    play(bytes, alone, |event| match event {
         Event::Steps(steps) => writeln!(output, "steps {steps}"),
         Event::Tick(machine) => line(machine, output),
         Event::Refused(refusal, done) => writeln!(output, "refused {refusal} {done}"),

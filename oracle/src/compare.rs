@@ -1,6 +1,7 @@
 //! Compares two files of answers, field by field.
 
-use crate::replay::{fill, open, Case, ANSWER, CALLS, CASE, MEMORIES};
+use crate::late::{is_late, MOVED};
+use crate::replay::{fill, open, Case, ANSWER, CALLS, CASE, MEMORIES, TICK};
 use crate::scene::{fields, Field, Kind, State};
 use std::io::{self, Read};
 
@@ -15,14 +16,17 @@ fn table() -> Vec<Field> {
     table
 }
 
-/// True where the files are the same and answer every case that is one.
-pub fn compare(input: &str, ours: &str, theirs: &str) -> io::Result<bool> {
+/// True where the files are the same and answer every case that is one. Ticks that find DEN late are counted. Where the original
+/// answered alone they are left out: there the fields of `MOVED` may differ, and no other.
+pub fn compare(input: &str, ours: &str, theirs: &str, alone: bool) -> io::Result<bool> {
     let mut input = open(input)?;
     let mut ours = open(ours)?;
     let mut theirs = open(theirs)?;
     let table = table();
     let mut counts = vec![0u64; table.len()];
+    let mut moved = vec![0u64; MOVED.len()];
     let (mut compared, mut differing) = (0u64, 0u64);
+    let (mut late, mut late_differing) = (0u64, 0u64);
 
     let mut memories = vec![0; MEMORIES];
     fill(&mut input, &mut memories)?;
@@ -31,7 +35,8 @@ pub fn compare(input: &str, ours: &str, theirs: &str) -> io::Result<bool> {
         let (mut a, mut b) = ([0; ANSWER], [0; ANSWER]);
         let case_length = fill(&mut input, &mut case)?;
         let (a_length, b_length) = (fill(&mut ours, &mut a)?, fill(&mut theirs, &mut b)?);
-        let wanted = case_length == CASE && Case::decode(&case).is_some();
+        let decoded = if case_length == CASE { Case::decode(&case) } else { None };
+        let wanted = decoded.is_some();
         if !wanted || a_length < ANSWER || b_length < ANSWER {
             // Two files that are short in the same way agree on nothing beyond their end.
             let ended_well = !wanted && a_length == 0 && b_length == 0;
@@ -41,7 +46,22 @@ pub fn compare(input: &str, ours: &str, theirs: &str) -> io::Result<bool> {
             }
             break ended_well;
         }
-        if a != b {
+        let is_late = b[0] == 0 && decoded.is_some_and(|case| case.call == TICK && is_late(&case.state));
+        late += u64::from(is_late);
+        if a != b && is_late && alone {
+            late_differing += 1;
+            let mut beyond = false;
+            for field in table.iter().filter(|field| a[field.offset..][..field.size] != b[field.offset..][..field.size]) {
+                match MOVED.iter().position(|name| *name == family(field)) {
+                    Some(place) => moved[place] += 1,
+                    None => {
+                        println!("case {compared}: {}\n  a late DEN moves {}", describe(&case), field.name);
+                        beyond = true;
+                    }
+                }
+            }
+            differing += u64::from(beyond);
+        } else if a != b {
             differing += 1;
             let shown = differing <= SHOWN;
             if shown {
@@ -60,11 +80,25 @@ pub fn compare(input: &str, ours: &str, theirs: &str) -> io::Result<bool> {
         }
         compared += 1;
     };
-    println!("{compared} answers compared, {differing} differ");
+    if alone {
+        println!("{} answers compared, {differing} differ", compared - late);
+        println!("{late} more left out, a tick that finds DEN late, {late_differing} of them differ");
+        for (name, count) in MOVED.iter().zip(&moved).filter(|(_, count)| **count > 0) {
+            println!("  late {count:>8}  {name}");
+        }
+    } else {
+        println!("{compared} answers compared, {differing} differ");
+        println!("{late} of them by the stand-in of a late DEN");
+    }
     for (field, count) in table.iter().zip(&counts).filter(|(_, count)| **count > 0) {
         println!("  {count:>8}  {}{}", field.name, place(field));
     }
     Ok(ended_well && differing == 0)
+}
+
+/// A field's name without its number: a matrix entry is one of forty.
+fn family(field: &Field) -> &str {
+    field.name.trim_end_matches(|c: char| c.is_ascii_digit()).trim_end()
 }
 
 /// Where the field is in a scene; the first two are the answer's own.

@@ -1,5 +1,6 @@
 //! The program `dump` of docs/FORMATS.md, with the original as the chip. The original has no dump: its ticks are compared, the text is ours.
 
+use crate::late::Met;
 use crate::play::{play, Event};
 use crate::vic::glue::Machine;
 use std::io::{self, Write};
@@ -8,10 +9,10 @@ use std::io::{self, Write};
 const SIGNALS: [(u32, &str); 8] = [(7, "cycle"), (9, "raster"), (1, "ba"), (1, "aec"), (8, "dma"), (3, "rc"), (10, "vc"), (1, "irq")];
 
 /// Dumps a run file.
-pub fn dump(bytes: &[u8], output: &mut impl Write) -> io::Result<()> {
+pub fn dump(bytes: &[u8], output: &mut impl Write, alone: bool) -> io::Result<Met> {
     declare(output)?;
     let (mut time, mut last) = (0, None);
-    play(bytes, |event| match event {
+    play(bytes, alone, |event| match event {
         Event::Steps(_) => Ok(()),
         Event::Tick(machine) => {
             let now = record(machine);

@@ -8,6 +8,7 @@ mod check;
 mod clockchip;
 mod compare;
 mod dump;
+mod late;
 mod memory;
 mod pace;
 mod pla;
@@ -26,7 +27,7 @@ use std::io::{self, BufWriter, Read, Write};
 use std::process::ExitCode;
 use vic::glue::Machine;
 
-const USAGE: &str = "usage:
+const USAGE: &str = "usage, with --alone before the command for the original without its stand-in of a late DEN:
   oracle cases SEED COUNT OUTFILE        make replay input
   oracle ends SEED COUNT DIR             make replay inputs that end early
   oracle answer INFILE OUTFILE           answer replay input with the original
@@ -34,6 +35,7 @@ const USAGE: &str = "usage:
   oracle show INFILE NUMBER              print one case of a replay input
   oracle fields                          list a scene's fields: place, size, kind, name
   oracle runs SEED COUNT DIR             make run files
+  oracle late-runs SEED COUNT DIR        make run files with DEN late on line 0x30
   oracle chart < FILE > OUT              chart a run file with the original
   oracle dump < FILE > OUT               dump a run file's ticks with the original
   oracle questions SEED COUNT DIR        make questions for ask, a file for each part
@@ -63,11 +65,15 @@ fn main() -> ExitCode {
 
 /// The command's verdict; nothing where there is no such command.
 fn run(arguments: &[&str]) -> io::Result<Option<bool>> {
+    let (alone, arguments) = match arguments {
+        ["--alone", rest @ ..] => (true, rest),
+        all => (false, all),
+    };
     let verdict = match *arguments {
         ["cases", seed, count, output] => cases::make(number(seed)?, number(count)?, output).map(|()| true),
         ["ends", seed, count, folder] => cases::make_ends(number(seed)?, number(count)?, folder).map(|()| true),
-        ["answer", input, output] => replay::answer(input, output).map(|()| true),
-        ["compare-replay", input, ours, theirs] => compare::compare(input, ours, theirs),
+        ["answer", input, output] => replay::answer(input, output, alone).map(|()| true),
+        ["compare-replay", input, ours, theirs] => compare::compare(input, ours, theirs, alone),
         ["show", input, place] => compare::show(input, number(place)?),
         ["fields"] => {
             let mut output = BufWriter::new(io::stdout().lock());
@@ -77,18 +83,22 @@ fn run(arguments: &[&str]) -> io::Result<Option<bool>> {
             output.flush().map(|()| true)
         }
         ["runs", seed, count, folder] => runs::make(number(seed)?, number(count)?, folder).map(|()| true),
+        ["late-runs", seed, count, folder] => runs::make_late(number(seed)?, number(count)?, folder).map(|()| true),
         ["chart"] => {
             let mut output = BufWriter::new(io::stdout().lock());
-            chart::chart(&given()?, &mut output)?;
+            eprintln!("{}", chart::chart(&given()?, &mut output, alone)?);
             output.flush().map(|()| true)
         }
         ["dump"] => {
             let mut output = BufWriter::new(io::stdout().lock());
-            dump::dump(&given()?, &mut output)?;
+            eprintln!("{}", dump::dump(&given()?, &mut output, alone)?);
             output.flush().map(|()| true)
         }
         ["power-up"] => io::stdout().write_all(&Machine::new(Memory::new()).state().encode()).map(|()| true),
-        ["pace"] => pace::pace(&given()?, &mut io::stdout().lock()).map(|()| true),
+        ["pace"] => {
+            eprintln!("{}", pace::pace(&given()?, &mut io::stdout().lock(), alone)?);
+            Ok(true)
+        }
         ["questions", seed, count, folder] => ask::make(number(seed)?, number(count)?, folder).map(|()| true),
         ["sample-questions", seed, output] => ask::make_sample(number(seed)?, output).map(|()| true),
         ["ask", input, output] => ask::answer(input, output).map(|()| true),

@@ -3,6 +3,7 @@
 //! In: the three memories, a scene, the bank, a byte for the port alone, the turns (4 bytes), and steps of an address, a
 //! value and a count of ticks (2 bytes). Out: the scene afterwards.
 
+use crate::late::Met;
 use crate::memory::Memory;
 use crate::replay::{fill, MEMORIES};
 use crate::scene::{State, SCENE};
@@ -11,7 +12,7 @@ use std::io::{self, Write};
 
 const HEAD: usize = 6;
 
-pub fn pace(input: &[u8], output: &mut impl Write) -> io::Result<()> {
+pub fn pace(input: &[u8], output: &mut impl Write, alone: bool) -> io::Result<Met> {
     let bad = |what: &str| io::Error::new(io::ErrorKind::InvalidInput, what.to_string());
     if input.len() < MEMORIES + SCENE + HEAD {
         return Err(bad("the input ends before its steps"));
@@ -26,14 +27,16 @@ pub fn pace(input: &[u8], output: &mut impl Write) -> io::Result<()> {
         fill(&mut from, part)?;
     }
     memory.bank = head[0];
-    let mut machine = Machine::new(memory);
+    let mut machine = Machine::judging(memory, alone);
     machine.load(&state);
     let turns = u32::from_le_bytes(head[2..6].try_into().expect("four bytes"));
+    let mut met = Met::default();
     for _ in 0..turns {
         for step in steps.chunks_exact(4) {
             machine.write(step[0], step[1]);
-            machine.run(u16::from_le_bytes([step[2], step[3]]));
+            machine.run(u16::from_le_bytes([step[2], step[3]]), &mut met);
         }
     }
-    output.write_all(&machine.state().encode())
+    output.write_all(&machine.state().encode())?;
+    Ok(met)
 }

@@ -2,6 +2,7 @@
 //!
 //! docs/DECISIONS.md, 33, settles the readings of the run file.
 
+use crate::late::Met;
 use crate::memory::Memory;
 use crate::vic::glue::{Machine, Refusal};
 use std::io;
@@ -17,25 +18,35 @@ pub enum Event<'a> {
     Refused(Refusal, u16),
 }
 
-/// Plays a run file and tells of it.
-pub fn play(bytes: &[u8], mut tell: impl FnMut(Event) -> io::Result<()>) -> io::Result<()> {
+/// Plays a run file and tells of it, with the stand-in of a late DEN or without.
+pub fn play(bytes: &[u8], alone: bool, mut tell: impl FnMut(Event) -> io::Result<()>) -> io::Result<Met> {
+    let mut met = Met::default();
     let mut file = Cursor { bytes, at: 0 };
-    let (mut machine, steps) = match open(&mut file) {
+    let (mut machine, steps) = match open(&mut file, alone) {
         Ok(opened) => opened,
-        Err(refusal) => return tell(Event::Refused(refusal, 0)),
+        Err(refusal) => {
+            tell(Event::Refused(refusal, 0))?;
+            return Ok(met);
+        }
     };
     tell(Event::Steps(steps))?;
     for done in 0..steps {
         match step(&mut file, &mut machine) {
-            Ok(true) => tell(Event::Tick(&machine))?,
+            Ok(true) => {
+                met.tick(machine.late);
+                tell(Event::Tick(&machine))?;
+            }
             Ok(false) => {}
-            Err(refusal) => return tell(Event::Refused(refusal, done)),
+            Err(refusal) => {
+                tell(Event::Refused(refusal, done))?;
+                return Ok(met);
+            }
         }
     }
     if file.at < bytes.len() {
-        return tell(Event::Refused(BYTES_LEFT, steps));
+        tell(Event::Refused(BYTES_LEFT, steps))?;
     }
-    Ok(())
+    Ok(met)
 }
 
 /// A run file and a place in it.
@@ -68,13 +79,13 @@ impl Cursor<'_> {
 }
 
 /// All that comes before the steps.
-fn open(file: &mut Cursor) -> Result<(Machine, u16), Refusal> {
+fn open(file: &mut Cursor, alone: bool) -> Result<(Machine, u16), Refusal> {
     let mut memory = Memory::new();
     file.changes(&mut memory.ram[..])?;
     file.changes(&mut memory.rom[..])?;
     file.changes(&mut memory.colour[..])?;
     let steps = u16::from_le_bytes(file.take()?);
-    Ok((Machine::new(memory), steps))
+    Ok((Machine::judging(memory, alone), steps))
 }
 
 /// One step; true for a tick.

@@ -105,8 +105,8 @@ pub fn answer_case(machine: &mut Machine, case: &Case) -> [u8; ANSWER] {
     bytes
 }
 
-/// Answers a file of cases, as far as they go.
-pub fn answer(input: &str, output: &str) -> io::Result<()> {
+/// Answers a file of cases, as far as they go, with the stand-in of a late DEN or without.
+pub fn answer(input: &str, output: &str, alone: bool) -> io::Result<()> {
     let mut input = open(input)?;
     let mut output = create(output)?;
     let mut memory = Memory::new();
@@ -116,7 +116,7 @@ pub fn answer(input: &str, output: &str) -> io::Result<()> {
             return output.flush();
         }
     }
-    let mut machine = Machine::new(memory);
+    let mut machine = Machine::judging(memory, alone);
     let mut count = 0u64;
     loop {
         let mut bytes = [0; CASE];

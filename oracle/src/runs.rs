@@ -79,6 +79,15 @@ impl Run {
 }
 
 pub fn make(seed: u64, count: u64, folder: &str) -> io::Result<()> {
+    made(seed, count, folder, one)
+}
+
+/// Run files in which DEN changes around line 0x30.
+pub fn make_late(seed: u64, count: u64, folder: &str) -> io::Result<()> {
+    made(seed, count, folder, |r, _| late(r).encode())
+}
+
+fn made(seed: u64, count: u64, folder: &str, one: impl Fn(&mut Rng, u64) -> Vec<u8>) -> io::Result<()> {
     fs::create_dir_all(folder)?;
     for number in 0..count {
         // Each file has its own generator, so that it doesn't change with the number of files.
@@ -230,6 +239,43 @@ fn game(r: &mut Rng) -> Run {
         if open_border && line == 0x100 && cycle == 30 {
             run.controls(ctrl1, ctrl2, first_split as u16);
             run.border_compares();
+        }
+    }
+    run
+}
+
+/// A frame, at times a second, whose DEN is mostly clear above line 0x30 and is set and cleared anywhere on it and beside it.
+fn late(r: &mut Rng) -> Run {
+    let mut run = Run { ram: changes(r, RAM, 60), colour: changes(r, COLOUR, 40), ..Run::default() };
+    let frames = if r.chance(1, 8) { 2 } else { 1 };
+    let ctrl2 = r.byte();
+    // Mostly a bad line on 0x30 itself, else one of the seven after it.
+    let row = if r.chance(2, 3) { 0 } else { r.below(8) as u8 };
+    run.controls(if r.chance(1, 5) { 0x18 } else { 0x08 } | row, ctrl2, r.pick(&[0, 0x30, 0x31, 0x100]));
+    run.border_compares();
+    run.write(0x15, r.mask());
+    for k in 0..8 {
+        run.write(2 * k + 1, r.within(0x28, 0x38) as u8);
+    }
+    let last = (frames - 1) * 312 * 63 + 63 * r.within(0x32, 0x48) as usize;
+    let mut next = r.below(160) as usize + 63 * 0x2F;
+    for ticks in 1..=last {
+        run.tick();
+        let (_, line) = Run::beam(ticks);
+        if ticks == next {
+            let den = if r.chance(2, 3) { 0x10 } else { 0 };
+            let scroll = if r.chance(3, 4) { row } else { r.below(8) as u8 };
+            run.controls(den | 0x08 | scroll, ctrl2, 0x30);
+            next += r.pick(&[1, 2, 5, 11, 30, 64]) as usize;
+            // From line 0x32 on the next frame's line.
+            if next > 63 * 0x32 && next < 312 * 63 {
+                next = 63 * (312 + 0x2F) + r.below(160) as usize;
+            }
+        } else if (0x30..0x33).contains(&line) && r.chance(1, 60) {
+            random_call(r, &mut run, ticks);
+        }
+        if r.chance(1, 8) && (0x30..0x40).contains(&line) {
+            run.late_byte(r.byte());
         }
     }
     run

@@ -1,9 +1,10 @@
 //! Small checks of the oracle's own parts.
 
-use crate::accept::accepted;
+use crate::accept::{accepted, CLOCK_LIMIT};
 use crate::ask::{mask_at, panics};
 use crate::chart::chart;
 use crate::dump::dump;
+use crate::late::is_late;
 use crate::memory::Memory;
 use crate::replay::{answer_case, Case, LATE_BYTE, TICK};
 use crate::rng::Rng;
@@ -27,6 +28,7 @@ const CHECKS: &[Check] = &[
     ("the twelve settled by proof", the_twelve),
     ("the mask follows the slots", the_mask),
     ("what the original does where the port leaves it", the_originals_own),
+    ("a late DEN, and the stand-in of it", the_late_den),
 ];
 
 pub fn selftest() -> bool {
@@ -114,7 +116,7 @@ fn power_up() -> bool {
 
 fn charted(bytes: &[u8]) -> String {
     let mut text = Vec::new();
-    chart(bytes, &mut text).expect("a list can be written");
+    chart(bytes, &mut text, true).expect("a list can be written");
     String::from_utf8(text).expect("a chart is plain text")
 }
 
@@ -128,7 +130,7 @@ fn the_chart() -> bool {
 fn the_dump() -> bool {
     let dumped = |bytes: &[u8]| {
         let mut text = Vec::new();
-        dump(bytes, &mut text).expect("a list can be written");
+        dump(bytes, &mut text, true).expect("a list can be written");
         String::from_utf8(text).expect("a dump is plain text")
     };
     let head = "$version Nickelplait $end
@@ -340,6 +342,38 @@ fn the_originals_own() -> bool {
         println!("       difference {number} is not shown");
     }
     found.iter().all(|(_, shown)| *shown)
+}
+
+/// docs/DIFFERENCES.md, 2. On line 0x30 the latch is DEN, or was set before in the line; on every other line the stand-in changes
+/// nothing; and the original alone takes DEN in cycle 1 only.
+fn the_late_den() -> bool {
+    let mut r = Rng::new(4);
+    let mut beside = Machine::judging(Memory::new(), false);
+    let mut alone = Machine::judging(Memory::new(), true);
+    let (mut late, mut apart) = (0, 0);
+    let sound = (0..100_000).all(|number: u32| {
+        let mut state = accepted_state(&mut r, 1 + (number % 63) as u16);
+        state.clock = state.clock.min(CLOCK_LIMIT - 2);
+        if number % 2 == 0 {
+            state.raster = r.pick(&[0x2F, 0x30, 0x30, 0x30]);
+        }
+        let ticked = |machine: &mut Machine| {
+            machine.load(&state);
+            machine.tick().expect("the tick is taken");
+            machine.state()
+        };
+        let (judge, original) = (ticked(&mut beside), ticked(&mut alone));
+        let begins = state.cycle == 63;
+        let line = if begins { state.raster + 1 } else { state.raster };
+        let den = state.ctrl1 & 0x10 != 0;
+        let wraps = state.cycle == 1 && state.frame_flag;
+        let latch = if line == 0x30 { den || (state.den_latch && !begins) } else { state.den_latch };
+        let old = if line == 0x30 && begins { den } else { state.den_latch };
+        late += u64::from(is_late(&state));
+        apart += u64::from(judge != original);
+        judge.den_latch == (latch && !wraps) && original.den_latch == (old && !wraps) && (judge == original || is_late(&state))
+    });
+    sound && beside.late == late && alone.late == late && 0 < apart && apart <= late
 }
 
 /// In the middle of a line that is displayed, row 0, far from any forced bad line.

@@ -4,6 +4,7 @@ use super::fsm::{CharacterAccessState, DisplayState, DisplayTransition, Graphics
 use super::state::VicII;
 use crate::accept::{accepted, clock_in_range, CLOCK_LIMIT};
 use crate::clockchip::signals::LineLevel;
+use crate::late::{comes_late, Met};
 use crate::memory::Memory;
 use crate::scene::State;
 
@@ -93,12 +94,21 @@ macro_rules! alike {
 pub struct Machine {
     chip: VicII,
     pub memory: Memory,
+    /// Whether a late DEN sets the latch, which is ours beside the original.
+    stands_in: bool,
+    /// How many ticks found DEN late.
+    pub late: u64,
 }
 
 impl Machine {
-    /// The chip at power-up.
+    /// The chip at power-up, to judge the port by: alone, or with the stand-in of a late DEN.
+    pub fn judging(memory: Memory, alone: bool) -> Self {
+        Self { stands_in: !alone, ..Self::new(memory) }
+    }
+
+    /// The original alone, at power-up.
     pub fn new(memory: Memory) -> Self {
-        let mut machine = Self { chip: VicII::new(), memory };
+        let mut machine = Self { chip: VicII::new(), memory, stands_in: false, late: 0 };
         // Drawing costs time and feeds nothing back; `check` compares both arms.
         machine.draw(false);
         machine.power_up();
@@ -115,7 +125,7 @@ impl Machine {
 
     /// The original's own power-up, with nothing put right.
     pub fn original_power_up() -> State {
-        Self { chip: VicII::new(), memory: Memory::new() }.state()
+        Self { chip: VicII::new(), memory: Memory::new(), stands_in: false, late: 0 }.state()
     }
 
     /// Chooses the arm of the original's `render_live`.
@@ -135,15 +145,33 @@ impl Machine {
         if self.chip.current_clock > CLOCK_LIMIT - 2 {
             return Err(CLOCK_AT_END);
         }
+        self.late_den();
         // The clock given here is the emulator's own, for the bus latch that is not kept.
         self.chip.tick_sequencer(&mut self.memory, 0);
         Ok(())
     }
 
+    /// Before a tick: a DEN that comes late is counted, and sets the latch where it is stood in for. The tick's own work is the original's.
+    fn late_den(&mut self) {
+        if comes_late(self.chip.timing.cycle, self.chip.timing.raster_line, self.chip.regs.ctrl1, self.chip.latch_den) {
+            self.late += 1;
+            self.chip.latch_den |= self.stands_in;
+        }
+    }
+
     /// Ticks and nothing else, for a clock: the state is one that a tick takes.
-    pub fn run(&mut self, ticks: u16) {
+    pub fn run(&mut self, ticks: u16, met: &mut Met) {
+        // On a clock the original runs alone, with nothing of ours beside it.
+        if !cfg!(debug_assertions) && !self.stands_in {
+            for _ in 0..ticks {
+                self.chip.tick_sequencer(&mut self.memory, 0);
+            }
+            return;
+        }
         for _ in 0..ticks {
+            self.late_den();
             self.chip.tick_sequencer(&mut self.memory, 0);
+            met.tick(self.late);
         }
     }
 

@@ -1,0 +1,73 @@
+//! DEN that comes late on line 0x30 (docs/DIFFERENCES.md, 2). The original takes DEN in the line's first cycle alone, the port in
+//! each of its cycles: here the original is no judge by itself, and a stand-in of ours sets its latch before the tick.
+
+use crate::scene::State;
+use std::fmt;
+
+const LINE: u16 = 0x30;
+const LAST_CYCLE: u16 = 63;
+const DEN: u8 = 0x10;
+
+/// Whether the tick after these is on line 0x30, not its first, and finds DEN set and the latch clear. On every other tick the
+/// two rules are one: the latch is stored, or a set one stays.
+pub fn comes_late(cycle: u16, raster: u16, ctrl1: u8, latch: bool) -> bool {
+    raster == LINE && cycle != LAST_CYCLE && ctrl1 & DEN != 0 && !latch
+}
+
+/// The same of a scene.
+pub fn is_late(s: &State) -> bool {
+    comes_late(s.cycle, s.raster, s.ctrl1, s.den_latch)
+}
+
+/// What a late DEN can move in one tick: the latch, the bad line and BA, who has the bus, the rows, and the matrix and graphics
+/// bytes that go by them. `compare-replay` takes any other field that differs for a fault.
+pub const MOVED: &[&str] = &[
+    "DEN latch",
+    "bad line",
+    "rising edge",
+    "BA output",
+    "BA low",
+    "AEC low",
+    "AEC counter",
+    "clock of BA's fall",
+    "clock of BA's rise",
+    "display",
+    "character access",
+    "RC",
+    "VC",
+    "VMLI",
+    "pending place",
+    "matrix entry",
+    "character fetched",
+    "carry",
+    "graphics byte",
+];
+
+/// What a run met: its ticks, those that found DEN late, and the first of them, counted from 0.
+#[derive(Default)]
+pub struct Met {
+    pub ticks: u64,
+    pub late: u64,
+    pub first: Option<u64>,
+}
+
+impl Met {
+    /// One tick more; the machine's count of late ones says whether it is one.
+    pub fn tick(&mut self, late: u64) {
+        if late > self.late {
+            self.late = late;
+            self.first.get_or_insert(self.ticks);
+        }
+        self.ticks += 1;
+    }
+}
+
+impl fmt::Display for Met {
+    fn fmt(&self, f: &mut fmt::Formatter) -> fmt::Result {
+        write!(f, "{} ticks, DEN late in {}", self.ticks, self.late)?;
+        match self.first {
+            Some(first) => write!(f, ", first in {first}"),
+            None => Ok(()),
+        }
+    }
+}
