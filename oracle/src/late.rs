@@ -2,7 +2,6 @@
 //! each of its cycles: here the original is no judge by itself, and a stand-in of ours sets its latch before the tick.
 
 use crate::scene::State;
-use std::fmt;
 
 const LINE: u16 = 0x30;
 const LAST_CYCLE: u16 = 63;
@@ -60,14 +59,11 @@ impl Met {
         }
         self.ticks += 1;
     }
-}
 
-impl fmt::Display for Met {
-    fn fmt(&self, f: &mut fmt::Formatter) -> fmt::Result {
-        write!(f, "{} ticks, DEN late in {}", self.ticks, self.late)?;
-        match self.first {
-            Some(first) => write!(f, ", first in {first}"),
-            None => Ok(()),
+    /// A line on standard error where there was one.
+    pub fn tell(&self) {
+        if let Some(first) = self.first {
+            eprintln!("{} ticks, DEN late in {}, first in {first}", self.ticks, self.late);
         }
     }
 }

@@ -86,19 +86,19 @@ fn run(arguments: &[&str]) -> io::Result<Option<bool>> {
         ["late-runs", seed, count, folder] => runs::make_late(number(seed)?, number(count)?, folder).map(|()| true),
         ["chart"] => {
             let mut output = BufWriter::new(io::stdout().lock());
-            eprintln!("{}", chart::chart(&given()?, &mut output, alone)?);
+            chart::chart(&given()?, &mut output, alone)?.tell();
             output.flush().map(|()| true)
         }
         ["dump"] => {
             let mut output = BufWriter::new(io::stdout().lock());
-            eprintln!("{}", dump::dump(&given()?, &mut output, alone)?);
+            dump::dump(&given()?, &mut output, alone)?.tell();
             output.flush().map(|()| true)
         }
         ["power-up"] => io::stdout().write_all(&Machine::new(Memory::new()).state().encode()).map(|()| true),
-        ["pace"] => {
-            eprintln!("{}", pace::pace(&given()?, &mut io::stdout().lock(), alone)?);
-            Ok(true)
-        }
+        ["pace"] => pace::pace(&given()?, &mut io::stdout().lock(), alone).map(|met| {
+            met.tell();
+            true
+        }),
         ["questions", seed, count, folder] => ask::make(number(seed)?, number(count)?, folder).map(|()| true),
         ["sample-questions", seed, output] => ask::make_sample(number(seed)?, output).map(|()| true),
         ["ask", input, output] => ask::answer(input, output).map(|()| true),

@@ -151,9 +151,14 @@ impl Machine {
         Ok(())
     }
 
+    /// The build for a clock runs the original alone, with nothing of ours beside it.
+    fn watches(&self) -> bool {
+        cfg!(debug_assertions) || self.stands_in
+    }
+
     /// Before a tick: a DEN that comes late is counted, and sets the latch where it is stood in for. The tick's own work is the original's.
     fn late_den(&mut self) {
-        if comes_late(self.chip.timing.cycle, self.chip.timing.raster_line, self.chip.regs.ctrl1, self.chip.latch_den) {
+        if self.watches() && comes_late(self.chip.timing.cycle, self.chip.timing.raster_line, self.chip.regs.ctrl1, self.chip.latch_den) {
             self.late += 1;
             self.chip.latch_den |= self.stands_in;
         }
@@ -161,17 +166,12 @@ impl Machine {
 
     /// Ticks and nothing else, for a clock: the state is one that a tick takes.
     pub fn run(&mut self, ticks: u16, met: &mut Met) {
-        // On a clock the original runs alone, with nothing of ours beside it.
-        if !cfg!(debug_assertions) && !self.stands_in {
-            for _ in 0..ticks {
-                self.chip.tick_sequencer(&mut self.memory, 0);
-            }
-            return;
-        }
         for _ in 0..ticks {
             self.late_den();
             self.chip.tick_sequencer(&mut self.memory, 0);
-            met.tick(self.late);
+            if self.watches() {
+                met.tick(self.late);
+            }
         }
     }
 
