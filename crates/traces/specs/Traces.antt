@@ -145,7 +145,7 @@ pub record TracesOf (before : ℕ → Side) : Type 0 where
   pub latch-48 :
       latchOf (lines 2 (before 47)) ≡
       holds 1 63 off
-      ++ holds 1 63 on  -- Bauer 3.5, DIFFERENCES 2: DEN counts on line 0x30, in cycle 1
+      ++ holds 1 63 on  -- Bauer 3.5, DIFFERENCES 2: DEN counts on line 0x30, here from its cycle 1
   -- Lines 50 and 51
   pub raster-51 :
       rasterOf (lines 2 (before 50)) ≡
