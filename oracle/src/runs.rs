@@ -258,7 +258,8 @@ fn late(r: &mut Rng) -> Run {
         run.write(2 * k + 1, r.within(0x28, 0x38) as u8);
     }
     let last = (frames - 1) * 312 * 63 + 63 * r.within(0x32, 0x48) as usize;
-    let mut next = r.below(160) as usize + 63 * 0x2F;
+    // From a few ticks before the line on, and at times after it.
+    let mut next = 63 * 0x30 - 10 + r.below(76) as usize;
     for ticks in 1..=last {
         run.tick();
         let (_, line) = Run::beam(ticks);
@@ -269,7 +270,7 @@ fn late(r: &mut Rng) -> Run {
             next += r.pick(&[1, 2, 5, 11, 30, 64]) as usize;
             // From line 0x32 on the next frame's line.
             if next > 63 * 0x32 && next < 312 * 63 {
-                next = 63 * (312 + 0x2F) + r.below(160) as usize;
+                next = 63 * (312 + 0x30) - 10 + r.below(76) as usize;
             }
         } else if (0x30..0x33).contains(&line) && r.chance(1, 60) {
             random_call(r, &mut run, ticks);
