@@ -1,8 +1,8 @@
 // The schedule of a line: when each event happens, which sprites ask for the bus, and how many have DMA.
 ghost use mathlib.Core.Path.{_≡_};
-ghost use mathlib.Core.Bool.{Bool, cond};
+ghost use mathlib.Core.Bool.{Bool};
 ghost use Prim.Native.Nat.{_+_, _-_, _<_};
-ghost use lib.Dec.{ltb};
+ghost use Rattle.schedule.specs.Kind.{firstPointer, wrapped};
 ghost use Rattle.schedule.specs.Diagram.{Event, lineBegins, frameEnds, matrixRequest, vcLoad, accessChosen, characterAccess, vmliCounts, graphicsAccess, lateIdle, accessEnds, graphicsCleared, rowEnds, crunch, mcbaseStep, firstPhase, secondPhase, mcLoad, mainRemembered, left40, left38, right38, right40, lineEnds, pointerOf, happens, pointerTime, dataTime, slotSprite, slotAfterBus};
 ghost use Rattle.schedule.specs.Requests.{maskAt, spritesIn};
 ghost use Rattle.schedule.specs.Machinery.Stretches.{isLater, isPast, isEarly, isBetween, isCalm, isStill};
@@ -20,12 +20,30 @@ pub const COUNTED_FROM: u16 = 18;
 
 pub const COUNTED_LAST: u16 = 52;
 
-// The sprites that ask, t cycles after sprite 0 begins to: each asks for five cycles, and begins two after the one before it.
+// Sprite 0's pointer slot: the other sprites' follow it, one every second cycle.
+const FIRST_POINTER: u16 = 58;
+
+// A sprite asks for the bus so many cycles before its pointer.
+const WARNING: u16 = 3;
+
+// Sprite 0's first request; in the next line, sprite 7's data slot.
+const FIRST_REQUEST: u16 = FIRST_POINTER - WARNING;
+
+const LAST_DATA: u16 = FIRST_POINTER + 2 * 7 + 1 - LAST_CYCLE;
+
+// So many sprites ask at once: one begins every second cycle, and goes on for WARNING + 2, the pointer and the data slot among them.
+const AT_ONCE: u16 = (WARNING + 3) / 2;
+
+const ALL_OF_THEM: u16 = (1 << AT_ONCE) - 1;
+
+const NEWEST: u16 = 1 << (AT_ONCE - 1);
+
+// The sprites that ask, t cycles after sprite 0 begins to. They move up by one every second cycle; in between the oldest is over.
 fn asking(t: u16) -> u8
     requires { ⌜ t < 19 ⌝ }
-    ensures { λ r. ⌜ r ≡ maskAt (cond (ltb t 9) (t + 55) (t - 8)) ⌝ }
+    ensures { λ r. ⌜ r ≡ maskAt (wrapped (firstPointer - 3 + t)) ⌝ }
 {
-    (((7 - t % 2) << (t / 2)) / 4 % 256) as u8
+    (((ALL_OF_THEM - t % 2) << (t / 2)) / NEWEST % 256) as u8
 }
 
 // The sprites that ask for the bus in a cycle, sprite k at bit k; none for a number that is no cycle.
@@ -35,14 +53,14 @@ pub fn mask(cycle: u16) -> u8
     if cycle < 1 {
         return 0;
     }
-    if cycle < 11 {
-        return asking(cycle + 8);
+    if cycle <= LAST_DATA {
+        return asking(cycle + LAST_CYCLE - FIRST_REQUEST);
     }
-    if cycle < 55 {
+    if cycle < FIRST_REQUEST {
         return 0;
     }
-    if cycle < 64 {
-        return asking(cycle - 55);
+    if cycle <= LAST_CYCLE {
+        return asking(cycle - FIRST_REQUEST);
     }
     0
 }

@@ -9,6 +9,9 @@ returns c = asks-none-first (c .before .args .cycle) (c .if1 .taken)
 add-asking : tie.Need-add-asking
 add-asking c = search needs
 
+sub-asking : tie.Need-sub-asking
+sub-asking c = search needs
+
 asking-requires : tie.Need-asking-requires
 asking-requires c κs = search needs
 
@@ -33,6 +36,7 @@ mask-spec =
     (tie.spec
     returns
     add-asking
+    sub-asking
     asking-requires
     returns-2
     returns-3
