@@ -7,7 +7,6 @@ use lib.Bits.{and-zero-r}
 use lib.IntN.{ℤ, pos, negsuc}
 use Rattle.laws.specs.Clock.{inRange, canTick}
 use Rattle.laws.proofs.Choice.{either, or-false}
-use Rattle.schedule.specs.Requests.{maskAt}
 use Rattle.arbitration.specs.declared.Bus.{Bus}
 use Rattle.arbitration.specs.Set.{clock≔, aec≔, balow≔, aeclow≔}
 use Rattle.arbitration.specs.Bus.{down, Counted, aecAfter, low, arbitrated, clockOn, clocked, fresh, spriteAsks, requested}
@@ -81,6 +80,6 @@ unfolding fresh
 fresh-clock = omega arith
 
 -- where no sprite is scheduled, the matrix alone asks
-pub matrix-alone : (ba : Bool) (dma cycle : ℕ) → maskAt cycle ≡ 0 → not ba ≡ requested ba dma cycle
+pub matrix-alone : (ba : Bool) (dma mask : ℕ) → mask ≡ 0 → not ba ≡ requested ba dma mask
 unfolding requested spriteAsks
-matrix-alone ba dma cycle e = rw (e, and-zero-r dma) (sym (or-false (not ba)))
+matrix-alone ba dma mask e = rw (e, and-zero-r dma) (sym (or-false (not ba)))

@@ -5,6 +5,7 @@ use mathlib.Core.Bool.{Bool, true, false, not, _&&_, _||_, cond}
 use lib.Dec.{eqb}
 use lib.Bits.{bitAnd}
 use lib.IntN.{ℤ, pos, negsuc, _+ℤ_}
+use Rattle.schedule.specs.Kind.{Kind}
 use Rattle.schedule.specs.Diagram.{happens, firstPhase, secondPhase}
 use Rattle.schedule.specs.Requests.{maskAt}
 use Rattle.arbitration.specs.declared.Bus.{Bus}
@@ -21,13 +22,13 @@ clockOn k clock = clock +ℤ pos (k * 2)
 unfoldable pub clocked : ℕ → Bus → Bus
 clocked k b = clock≔ (clockOn k (b .clock)) b
 
--- Bauer 3.8.1: a sprite with DMA on whose slots are near
+-- Bauer 3.8.1: a sprite with DMA on whose slots are near, by the mask of a cycle's requests
 unfoldable pub spriteAsks : ℕ → ℕ → Bool
-spriteAsks dma cycle = not (eqb (bitAnd dma (maskAt cycle)) 0)
+spriteAsks dma mask = not (eqb (bitAnd dma mask) 0)
 
 -- Bauer 3.6.1: the matrix asks by a low BA output, a sprite by its DMA
 unfoldable pub requested : Bool → ℕ → ℕ → Bool
-requested ba dma cycle = not ba || spriteAsks dma cycle
+requested ba dma mask = not ba || spriteAsks dma mask
 
 -- 01, Arbitration: a request counts down to −1
 abbrev pub down : ℤ → ℤ
@@ -62,8 +63,8 @@ arbitrated b asked =
     }
 
 -- 01, Arbitration: the DMA mask of the cycle before counts in the two DMA phases
-unfoldable pub phi1Mask : ℕ → ℕ → ℕ → ℕ
-phi1Mask dma previous cycle = cond (happens firstPhase cycle || happens secondPhase cycle) previous dma
+unfoldable pub phi1Mask : Kind → ℕ → ℕ → ℕ → ℕ
+phi1Mask k dma previous cycle = cond (happens (firstPhase k) cycle || happens (secondPhase k) cycle) previous dma
 
-unfoldable pub phi1High : Bool → ℕ → ℕ → ℕ → Bool
-phi1High ba dma previous cycle = ba && not (spriteAsks (phi1Mask dma previous cycle) cycle)
+unfoldable pub phi1High : Kind → Bool → ℕ → ℕ → ℕ → Bool
+phi1High k ba dma previous cycle = ba && not (spriteAsks (phi1Mask k dma previous cycle) (maskAt k cycle))

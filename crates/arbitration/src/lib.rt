@@ -3,6 +3,7 @@ ghost use mathlib.Core.Path.{_≡_};
 ghost use mathlib.Core.Bool.{Bool, cond};
 ghost use lib.IntN.{ℤ};
 ghost use Rattle.laws.specs.Clock.{inRange};
+ghost use Rattle.schedule.specs.Kind.{kindOf};
 ghost use Rattle.arbitration.specs.Bus.{fresh, clockOn, clocked, spriteAsks, requested, aecAfter, low, arbitrated, phi1Mask, phi1High};
 
 pub struct Bus {
@@ -22,18 +23,18 @@ pub fn clock_on(clock: i64, k: u8) -> i64
     clock + (laws::wide(k) * 2) as i64
 }
 
-// Whether a sprite with DMA is scheduled in this cycle.
-pub fn sprite_asks(dma: u8, cycle: u16) -> bool
-    ensures { λ r. ⌜ r ≡ spriteAsks dma cycle ⌝ }
+// Whether a sprite with DMA is among those that the schedule has in a cycle.
+pub fn sprite_asks(dma: u8, mask: u8) -> bool
+    ensures { λ r. ⌜ r ≡ spriteAsks dma mask ⌝ }
 {
-    dma & schedule::mask(cycle) != 0
+    dma & mask != 0
 }
 
 // The bus is asked for by the matrix, whose BA output is low then, or by a sprite.
-pub fn request(ba: bool, dma: u8, cycle: u16) -> bool
-    ensures { λ r. ⌜ r ≡ requested ba dma cycle ⌝ }
+pub fn request(ba: bool, dma: u8, mask: u8) -> bool
+    ensures { λ r. ⌜ r ≡ requested ba dma mask ⌝ }
 {
-    !ba | sprite_asks(dma, cycle)
+    !ba | sprite_asks(dma, mask)
 }
 
 // One less, and -1 stays.
@@ -63,17 +64,19 @@ pub fn edge_clock(here: bool, clock: i64, old: i64) -> i64
 }
 
 // The mask that counts in the first clock phase: DMA that starts in this cycle is not in it yet.
-pub fn phi1_mask(dma: u8, previous: u8, cycle: u16) -> u8
-    ensures { λ r. ⌜ r ≡ phi1Mask dma previous cycle ⌝ }
+pub fn phi1_mask(kind: u8, dma: u8, previous: u8, cycle: u16) -> u8
+    ensures { λ r. ⌜ r ≡ phi1Mask (kindOf kind) dma previous cycle ⌝ }
 {
-    let starting = schedule::first_phase(cycle) | schedule::second_phase(cycle);
+    let starting = schedule::first_phase(kind, cycle) | schedule::second_phase(kind, cycle);
     if starting { previous } else { dma }
 }
 
-pub fn ba_high_at_phi1(ba: bool, dma: u8, previous: u8, cycle: u16) -> bool
-    ensures { λ r. ⌜ r ≡ phi1High ba dma previous cycle ⌝ }
+pub fn ba_high_at_phi1(kind: u8, ba: bool, dma: u8, previous: u8, cycle: u16) -> bool
+    ensures { λ r. ⌜ r ≡ phi1High (kindOf kind) ba dma previous cycle ⌝ }
 {
-    ba & !sprite_asks(phi1_mask(dma, previous, cycle), cycle)
+    let counted = phi1_mask(kind, dma, previous, cycle);
+    let mask = schedule::mask(kind, cycle);
+    ba & !sprite_asks(counted, mask)
 }
 
 impl Bus {

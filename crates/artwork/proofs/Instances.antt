@@ -10,6 +10,7 @@ use Rattle.laws.specs.Bits.{hasBit}
 use Rattle.laws.specs.Lists.{zeros}
 use Rattle.memory.specs.Lent.{Host, host, lentRefusal}
 use Rattle.memory.proofs.Lent.{lent-legal, lent-bank}
+use Rattle.schedule.specs.Kind.{known, kindOf}
 use Rattle.registers.specs.Read.{controlAt, readOf}
 use Rattle.timing.specs.Beam as Beams
 use Rattle.side.specs.declared.Side.{Side}
@@ -42,11 +43,11 @@ unfolding filled
 filled-above v = lent-bank (replicate 16384 v) (replicate 4096 v) (replicate 1024 v) 4 (length-replicate 16384 v) (length-replicate 4096 v) (length-replicate 1024 v) refl
 
 -- power-up with every picture field and every picture bit of a register another
-pub loud : Chip
-loud =
+pub loud : ℕ → Chip
+loud kind =
     record {
       regs = record { mx = replicate 8 255; my = zeros 8; cols = replicate 8 15; bg = replicate 4 15; msbx = 255; enable = 0; yexp = 0; xexp = 255; prio = 255; multi = 255; mc0 = 15; mc1 = 15; ctrl1 = 0xE0; ctrl2 = 0xF7; compare = 0; ptrs = 255; border = 15 };
-      side = freshSide;
+      side = freshSide kind;
       picture = record {
         pen = record { ch = 0xFFF; carry = 1; gfx = 255; mode = 7; old = 7; changing = true; forced = pos 2 };
         matrix = replicate 40 0xFFF;
@@ -56,21 +57,21 @@ loud =
       };
     }
 
-at-power-up : Together powered loud
+at-power-up : (kind : ℕ) → known kind ≡ true → Together (powered kind) (loud kind)
 unfolding loud powered timed hasBit
-at-power-up =
+at-power-up kind k =
     record {
-      left = powered-accepted;
-      right = fine-accepted loud (record { side = fresh-fine; compare = omega arith; forced = omega arith });
+      left = powered-accepted kind k;
+      right = fine-accepted (loud kind) (record { side = fresh-fine kind k; compare = omega arith; forced = omega arith });
       side = refl;
       registers = refl;
     }
 
 -- reads of 0x11 and 0x16 on these two: every bit that may differ does, and no other
 pub free-bits :
-    (registerRead powered 0x11 0 0 ≡ 0b10000000) × (registerRead loud 0x11 0 0 ≡ 0b11100000)
-    × (registerRead powered 0x16 0 0 ≡ 0b11000000) × (registerRead loud 0x16 0 0 ≡ 0b11110111)
-unfolding registerRead readOf controlAt loud powered freshSide Beams.fresh
+    (registerRead (powered 0) 0x11 0 0 ≡ 0b10000000) × (registerRead (loud 0) 0x11 0 0 ≡ 0b11100000)
+    × (registerRead (powered 0) 0x16 0 0 ≡ 0b11000000) × (registerRead (loud 0) 0x16 0 0 ≡ 0b11110111)
+unfolding registerRead readOf controlAt loud powered freshSide Beams.fresh kindOf
 free-bits = (refl, refl, refl, refl)
 
 -- the same calls; sprite 0 is enabled at line 50, expanded, and the display is on
@@ -125,6 +126,6 @@ lines refused s = (s .bus .balow, s .bus .aeclow)
 abbrev bus : Answer → Bool × Bool
 bus r = lines (r .refused) (r .chip .side)
 
--- after each of the calls, however many ticks there are
-pub same-bus : (n : ℕ) → map bus (run (plain n) powered) ≡ map bus (run (other n) loud)
-same-bus n = charted lines (artwork-never-moves-a-cycle (plain n) (other n) (alike n) powered loud at-power-up)
+-- after each of the calls, however many ticks there are, on either kind
+pub same-bus : (kind n : ℕ) → known kind ≡ true → map bus (run (plain n) (powered kind)) ≡ map bus (run (other n) (loud kind))
+same-bus kind n k = charted lines (artwork-never-moves-a-cycle (plain n) (other n) (alike n) (powered kind) (loud kind) (at-power-up kind k))

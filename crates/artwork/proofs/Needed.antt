@@ -1,4 +1,4 @@
--- Each timing register is needed: two runs of two calls on one accepted chip, that differ in one timing value, differ after one tick.
+-- Each timing register is needed, and so is the kind: two runs of two calls on one accepted chip, that differ in one timing value, differ after one tick.
 use Prim.Native.Nat.{ℕ}
 use mathlib.Core.Path.{_≡_, refl, ap, _∙_}
 use mathlib.Core.Bool.{true, false}
@@ -10,6 +10,7 @@ use Rattle.laws.specs.Pick.{pick}
 use Rattle.memory.specs.Lent.{Host, lentRefusal}
 use Rattle.registers.specs.Registers.{latch, written}
 use Rattle.registers.specs.Irq.{quiet, asked, settled, triggered, irqWritten}
+use Rattle.schedule.specs.Kind.{known, kindOf}
 use Rattle.schedule.specs.Diagram.{happens, pointerTime, dataTime}
 use Rattle.schedule.specs.Requests.{maskAt}
 use Rattle.timing.specs.Beam.{badLine, latched, baOutput, nextCycle, atLastLine, nextLine, beamTurned}
@@ -33,18 +34,18 @@ use Rattle.registers.specs.Control.{timed}
 use Rattle.chip.specs.Accept.{accepted, aecFine, clockFine, placeFine}
 use Rattle.sequencer.specs.Tick.{tickable}
 use Rattle.calls.specs.Calls.{registerWritten, expandAt, controlsPlaced, displayPlaced}
-use Rattle.sequencer.proofs.Sides.{tick-taken, tick-side, tick-bank, tick-unaccepted}
+use Rattle.sequencer.proofs.Sides.{tick-taken, tick-side, tick-bank, tick-unknown, tick-unaccepted}
 use Rattle.artwork.specs.Runs.{Call, tick, write, expand, place-controls, place-display, done}
 use Rattle.artwork.proofs.Instances.{filled, filled-low, filled-high, filled-above}
 
 -- after this cycle of this line: DEN latched, both borders open, no sprite busy; sprite 0 enabled at line 100
-abbrev pub chipForced : ℤ → ℕ → ℕ → Chip
-chipForced forced cycle raster =
+abbrev pub chipMade : ℕ → ℤ → ℕ → ℕ → Chip
+chipMade kind forced cycle raster =
     record {
       regs = record { mx = zeros 8; my = 100 ∷ zeros 7; cols = zeros 8; bg = zeros 4; msbx = 0; enable = 1; yexp = 0; xexp = 0; prio = 0; multi = 0; mc0 = 0; mc1 = 0; ctrl1 = 0x10; ctrl2 = 0; compare = 0; ptrs = 0; border = 0 };
       side = record {
         irq = quiet;
-        beam = cycle≔ cycle (raster≔ raster (den≔ true (latch≔ true Beams.fresh)));
+        beam = cycle≔ cycle (raster≔ raster (den≔ true (latch≔ true (Beams.fresh kind))));
         frame = Frames.fresh;
         border = record { vertical = false; main = false; old = false; disabled = false; part40 = 0; part38 = 0; top = 55; bottom = 247 };
         sprites = Sprites.allFresh;
@@ -61,6 +62,10 @@ chipForced forced cycle raster =
         words = zeros 8;
       };
     }
+
+-- a 6569
+abbrev pub chipForced : ℤ → ℕ → ℕ → Chip
+chipForced forced cycle raster = chipMade 0 forced cycle raster
 
 abbrev pub chipAt : ℕ → ℕ → Chip
 chipAt cycle raster = chipForced (pos 0) cycle raster
@@ -94,12 +99,18 @@ pub record Needed (h : Host) : Type 0 where
   -- RSEL, in every cycle: the beam has it
   pub rsel-1 : after h (place-controls 0x18 0 0) (chipAt 11 100) .beam .rsel ≡ true
   pub rsel-0 : after h (place-controls 0x10 0 0) (chipAt 11 100) .beam .rsel ≡ false
+  -- the kind, after cycle 63: the line goes on, or the next begins
+  pub kind-0 : after h (write 0x20 0) (chipMade 0 (pos 0) 63 100) .beam .cycle ≡ 1
+  pub kind-1 : after h (write 0x20 0) (chipMade 1 (pos 0) 63 100) .beam .cycle ≡ 64
 
 -- And so are the legal values and the accepted states: one of two calls, or of two chips, is refused where the other is not
 pub record Refused : Type 0 where
   -- the bank
   pub bank-3 : done (tick (filled 0 3)) (chipAt 11 100) .refused ≡ 0
   pub bank-4 : done (tick (filled 0 4)) (chipAt 11 100) .refused ≡ 2
+  -- the kind of a chip
+  pub known-1 : done (tick (filled 0 0)) (chipMade 1 (pos 0) 11 100) .refused ≡ 0
+  pub unknown-2 : done (tick (filled 0 0)) (chipMade 2 (pos 0) 11 100) .refused ≡ 12
   -- the forced clock, of a chip and of a call
   pub accepted-0 : done (tick (filled 0 0)) (chipForced (pos 0) 11 100) .refused ≡ 0
   pub accepted-below : done (tick (filled 0 0)) (chipForced (negsuc 0) 11 100) .refused ≡ 3
@@ -112,7 +123,7 @@ unfolding done
 seen see h x c l e t = ap see (ap (λ (r : Answer). r .chip .side) (tick-taken h (done x c .chip) l e t) ∙ tick-side h (done x c .chip))
 
 pub needed : (h : Host) → lentRefusal h ≡ 0 → Needed h
-unfolding done registerWritten expandAt controlsPlaced timed accepted aecFine clockFine tickable placeFine fineTest vmliLimit turned hasBit withBit withoutBit pick latch written asked settled triggered irqWritten happens pointerTime dataTime maskAt badLine latched baOutput nextCycle atLastLine nextLine beamTurned Beams.fresh Borders.right38Passed Sprites.allFresh Sprites.fresh Sprites.spriteAt Sprites.upTo Sprites.dmaBegun Sprites.startOne Sprites.started Sprites.firstPhased Sprites.clearAfter Sprites.flipAfter Sprites.expandWritten Buses.fresh Buses.spriteAsks Buses.requested Buses.arbitrated Frames.fresh Frames.swept Frames.rasterBegun Frames.matchRaises Frames.frameBegun Frames.frameEnded Frames.raised Rows.fresh Phases.beginAt Phases.left40At Phases.left38At Phases.right38At Phases.right40At Phases.rememberAt Phases.endAt Phases.bordered Phases.stepAt Phases.firstAt Phases.secondAt Phases.loadAt Phases.phased Phases.slotMoved
+unfolding done known kindOf registerWritten expandAt controlsPlaced timed accepted aecFine clockFine tickable placeFine fineTest vmliLimit turned hasBit withBit withoutBit pick latch written asked settled triggered irqWritten happens pointerTime dataTime maskAt badLine latched baOutput nextCycle atLastLine nextLine beamTurned Beams.fresh Borders.right38Passed Sprites.allFresh Sprites.fresh Sprites.spriteAt Sprites.upTo Sprites.dmaBegun Sprites.startOne Sprites.started Sprites.firstPhased Sprites.clearAfter Sprites.flipAfter Sprites.expandWritten Buses.fresh Buses.spriteAsks Buses.requested Buses.arbitrated Frames.fresh Frames.swept Frames.rasterBegun Frames.matchRaises Frames.frameBegun Frames.frameEnded Frames.raised Rows.fresh Phases.beginAt Phases.left40At Phases.left38At Phases.right38At Phases.right40At Phases.rememberAt Phases.endAt Phases.bordered Phases.stepAt Phases.firstAt Phases.secondAt Phases.loadAt Phases.phased Phases.slotMoved
 needed h l =
     record {
       yscroll-0 = seen (λ (s : Side). s .bus .balow) h (place-controls 0x10 0 0) (chipAt 11 0x30) l refl refl;
@@ -131,16 +142,20 @@ needed h l =
       den-0 = seen (λ (s : Side). s .beam .latch) h (place-controls 0x00 0 0) (chipAt 63 0x2F) l refl refl;
       rsel-1 = seen (λ (s : Side). s .beam .rsel) h (place-controls 0x18 0 0) (chipAt 11 100) l refl refl;
       rsel-0 = seen (λ (s : Side). s .beam .rsel) h (place-controls 0x10 0 0) (chipAt 11 100) l refl refl;
+      kind-0 = seen (λ (s : Side). s .beam .cycle) h (write 0x20 0) (chipMade 0 (pos 0) 63 100) l refl refl;
+      kind-1 = seen (λ (s : Side). s .beam .cycle) h (write 0x20 0) (chipMade 1 (pos 0) 63 100) l refl refl;
     }
 
 pub refused : Refused
-unfolding done displayPlaced accepted aecFine clockFine tickable placeFine fineTest vmliLimit pick happens Sprites.allFresh Sprites.fresh Sprites.spriteAt Buses.fresh Beams.fresh Frames.fresh Rows.fresh
+unfolding done known kindOf displayPlaced accepted aecFine clockFine tickable placeFine fineTest vmliLimit pick happens Sprites.allFresh Sprites.fresh Sprites.spriteAt Buses.fresh Beams.fresh Frames.fresh Rows.fresh
 refused =
     record {
       bank-3 = ap number (tick-taken (filled 0 3) (chipAt 11 100) (filled-high 0) refl refl);
       bank-4 = ap number (tick-bank (filled 0 4) (chipAt 11 100) (filled-above 0));
+      known-1 = ap number (tick-taken (filled 0 0) (chipMade 1 (pos 0) 11 100) (filled-low 0) refl refl);
+      unknown-2 = ap number (tick-unknown (filled 0 0) (chipMade 2 (pos 0) 11 100) (filled-low 0) refl);
       accepted-0 = ap number (tick-taken (filled 0 0) (chipAt 11 100) (filled-low 0) refl refl);
-      accepted-below = ap number (tick-unaccepted (filled 0 0) (chipForced (negsuc 0) 11 100) (filled-low 0) refl);
+      accepted-below = ap number (tick-unaccepted (filled 0 0) (chipForced (negsuc 0) 11 100) (filled-low 0) refl refl);
       forced-0 = refl;
       forced-below = refl;
     }

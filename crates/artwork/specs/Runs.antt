@@ -16,7 +16,8 @@ use Rattle.chip.specs.Accept.{accepted, clockFine}
 use Rattle.sequencer.specs.Tick.{ticked, ticksFrom}
 use Rattle.calls.specs.Calls.{registerRead, registerWritten, expandAt, comparesBy, controlsPlaced, displayPlaced, lateTaken, phi1, dmaCount}
 
--- 01, Timing side and picture side: the timing side is the chip's field `side`, whole, the interrupt and the pending place with it.
+-- 01, Timing side and picture side: the timing side is the chip's field `side`, whole, the interrupt and the pending place with it;
+-- 02 (iv): the kind is in its beam, so that two runs share it.
 -- The timing registers are what `timed` takes from the file: of ctrl1 bits 0..4 (YSCROLL 0..2, RSEL 3, DEN 4), of ctrl2 bit 3 (CSEL),
 -- the compare line, the eight Y, enable, Y-expand.
 pub record Together (a b : Chip) : Type 0 where

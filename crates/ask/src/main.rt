@@ -1,8 +1,8 @@
 // Answers what a case of `replay` has no room for, so that `oracle/compare` can compare that with the original too.
 // In: the three memories, then questions to the end of the input, each a kind and twelve bytes a to l; a scene follows
 // from kind 5 on. Two bytes that make a number have the low one first. What is asked, and the bytes that come out:
-//   0  the chip at power-up                                               a scene
-//   1  the mask of the cycle ab                                           the library's, the front end's
+//   0  the chip at power-up, of kind a                                    a scene
+//   1  the mask of the cycle ab, of kind c                                the library's, the front end's, the front end's without a kind
 //   2  the raster line ab, latch c: a bad one?                            256 of the library by YSCROLL, 256 of the front end
 //   3  how many sprites the mask a has                                    the library's, the front end's
 //   4  the block of pointer a in bank b, RAM of cd bytes, ROM of ef       the refusal, the block's length, the block
@@ -38,13 +38,17 @@ fn odd(b: u8) -> bool {
 
 // A scene to the output; false where that fails.
 fn show(chip: Chip) -> bool {
-    let mut body = [0u8; 308];
+    let mut body = [0u8; 309];
     scene::encode(chip, &mut body);
     io::write_all(STDOUT_FILENO, &body)
 }
 
-fn masks(cycle: u16) -> bool {
-    let told = [schedule::mask(cycle), frontend::nickelplait_mask(cycle)];
+fn masks(cycle: u16, kind: u8) -> bool {
+    let told = [
+        schedule::mask(kind, cycle),
+        frontend::nickelplait_kind_mask(kind, cycle),
+        frontend::nickelplait_mask(cycle),
+    ];
     io::write_all(STDOUT_FILENO, &told)
 }
 
@@ -126,10 +130,10 @@ fn plain(head: [u8; 13], memories: &[u8]) -> bool
     requires { ⌜ length (now memories) ≡ 21504 ⌝ }
 {
     if head[0] == 0 {
-        return show(chip::power_up());
+        return show(chip::power_up(head[1]));
     }
     if head[0] == 1 {
-        return masks(word(head[1], head[2]));
+        return masks(word(head[1], head[2]), head[3]);
     }
     if head[0] == 2 {
         return bad_lines(word(head[1], head[2]), head[3]);
@@ -148,9 +152,9 @@ fn plain(head: [u8; 13], memories: &[u8]) -> bool
 
 // A question of kind 5 to 7, about a scene; false where the run ends.
 fn about(head: [u8; 13]) -> bool {
-    let mut body = [0u8; 308];
+    let mut body = [0u8; 309];
     let n = io::read_full(STDIN_FILENO, &mut body);
-    if n != 308 {
+    if n != 309 {
         return false;
     }
     let decoded = scene::decode(&body);

@@ -3,17 +3,18 @@ use Prim.Native.Nat.{ℕ, _<_}
 use mathlib.Core.Path.{_≡_, refl}
 use mathlib.Core.Bool.{Bool, true}
 use borrow.Author.Tests.{ltb-false}
-use lib.Dec.{ltb}
+use lib.Dec.{eqb, ltb}
 use lib.IntN.{ℤ}
 use Rattle.laws.proofs.Choice.{either, by-test}
 use Rattle.registers.proofs.Kept.{compare-kept}
+use Rattle.schedule.specs.Kind.{kindOf}
 use Rattle.sprites.proofs.Kept.{fine-expand}
 use Rattle.rows.specs.declared.Pending.{Pending}
 use Rattle.rows.specs.declared.Pending.the-variants.{Nothing, At}
 use Rattle.side.proofs.Kept.{side-same}
 use Rattle.chip.specs.declared.Chip.{Chip}
 use Rattle.chip.specs.declared.Answer.{Answer}
-use Rattle.chip.specs.Accept.{clockFine, accepted}
+use Rattle.chip.specs.Accept.{clockFine, accepted, stateRefusal}
 use Rattle.calls.specs.Calls.{registerWritten, expandAt, comparesBy, controlsPlaced, displayPlaced, lateAt, lateTaken}
 use Rattle.chip.proofs.Accepted.{clock-fine-range}
 use Rattle.chip.proofs.Fine.{accepted-fine, fine-accepted}
@@ -35,7 +36,7 @@ module _ (c : Chip) where
   expand-kept v e =
       let f = accepted-fine c e in
       fine-accepted (expandAt c v) (record {
-        side = side-same refl refl refl refl refl refl (fine-expand v (c .side .beam .cycle) (c .regs .yexp) (f .side .sprites)) (f .side .place) (f .side);
+        side = side-same refl refl refl refl refl refl (fine-expand (kindOf (c .side .beam .kind)) v (c .side .beam .cycle) (c .regs .yexp) (f .side .sprites)) (f .side .place) (f .side);
         compare = f .compare;
         forced = f .forced;
       })
@@ -81,4 +82,4 @@ module _ (c : Chip) where
 
   pub late-kept : (byte : ℕ) → accepted c ≡ true → accepted (lateTaken c byte .chip) ≡ true
   unfolding lateTaken
-  late-kept byte e = either (λ (a : Answer). accepted (a .chip) ≡ true) (accepted c) (late-at-kept byte (c .side .pending .place) e) e
+  late-kept byte e = either (λ (a : Answer). accepted (a .chip) ≡ true) (eqb (stateRefusal c) 0) (late-at-kept byte (c .side .pending .place) e) e

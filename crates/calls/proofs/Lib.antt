@@ -1,3 +1,4 @@
 pub mod Parts
 pub mod Kept
 pub mod Sides
+pub mod Numbers

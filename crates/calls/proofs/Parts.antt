@@ -3,7 +3,7 @@ use Prim.Native.Nat.{ℕ, _<_}
 use mathlib.Core.Path.{_≡_, sym, _∙_}
 use mathlib.Core.Bool.{Bool, true, false, not}
 use lib.IntN.{ℤ}
-use borrow.Author.Tests.{not-true, not-false}
+use borrow.Author.Tests.{not-true, not-false, ne-eqb}
 use Rattle.rows.specs.declared.Pending.the-variants.{Nothing, At}
 use Rattle.rows.specs.Pending.{Pends}
 use Rattle.side.specs.Set.{rows≔}
@@ -11,9 +11,10 @@ use Rattle.rows.specs.Set.{display≔, transition≔, access≔}
 use Rattle.picture.specs.Set.{changing≔, forced≔}
 use Rattle.chip.specs.declared.Chip.{Chip}
 use Rattle.chip.specs.Set.{side≔, picture≔, pen≔}
-use Rattle.chip.specs.Accept.{clockFine, accepted}
+use Rattle.chip.specs.Accept.{clockFine, stateRefusal}
 use Rattle.chip.specs.Chip.{answer}
 use Rattle.calls.specs.Calls.{displayPlaced, lateAt, lateTaken}
+use Rattle.chip.proofs.Fine.{taken-accepted}
 use Rattle.chip.proofs.Accepted.{accepted-place, place-fine-pends}
 
 module _ (c : Chip) where
@@ -29,22 +30,22 @@ module _ (c : Chip) where
     unfolding displayPlaced
     placed t forced = rw forced (simp (sym e ∙ not-false fine t))
 
-  -- a byte for a state that is not accepted, for no place, and for one
-  module _ (byte : ℕ) {fine : Bool} (e : fine ≡ accepted c) where
-    pub not-late : not fine ≡ true → answer 3 c ≡ lateTaken c byte
+  -- a byte for a state that is not taken, for no place, and for one
+  module _ (byte : ℕ) {state : ℕ} (e : state ≡ stateRefusal c) where
+    pub not-late : (state ≡ 0 → ⊥) → answer state c ≡ lateTaken c byte
     unfolding lateTaken
-    not-late t = simp (sym e ∙ not-true fine t)
+    not-late t = rw (← e, ne-eqb state 0 t)
 
-    pub late-none : not fine ≡ false → c .side .pending .place ≡ Nothing → answer 0 c ≡ lateTaken c byte
+    pub late-none : state ≡ 0 → c .side .pending .place ≡ Nothing → answer 0 c ≡ lateTaken c byte
     unfolding lateTaken
-    late-none t p = simp (p, sym e ∙ not-false fine t)
+    late-none t p = simp (p, sym e ∙ t)
 
-    pub late-small : {place : ℕ} → not fine ≡ false → c .side .pending .place ≡ At place → place < 40
+    pub late-small : {place : ℕ} → state ≡ 0 → c .side .pending .place ≡ At place → place < 40
     late-small t p =
-        let small : Pends (c .side .pending .place) = place-fine-pends (c .side .pending .place) (accepted-place c (sym e ∙ not-false fine t)) in
+        let small : Pends (c .side .pending .place) = place-fine-pends (c .side .pending .place) (accepted-place c (taken-accepted c (sym e ∙ t))) in
         rw p at small
 
-    pub late-filled : {place : ℕ} {filled : Chip} → not fine ≡ false → c .side .pending .place ≡ At place → filled ≡ lateAt c byte (At place)
+    pub late-filled : {place : ℕ} {filled : Chip} → state ≡ 0 → c .side .pending .place ≡ At place → filled ≡ lateAt c byte (At place)
         → answer 0 filled ≡ lateTaken c byte
     unfolding lateTaken
-    late-filled t p filled = simp (filled, p, sym e ∙ not-false fine t)
+    late-filled t p filled = simp (filled, p, sym e ∙ t)

@@ -18,6 +18,8 @@ use Rattle.side.specs.declared.Side.{Side}
 use Rattle.side.specs.Set.{irq≔, border≔, sprites≔, rows≔, pending≔}
 use Rattle.rows.specs.Set.{display≔, transition≔, access≔}
 use Rattle.chip.specs.declared.Chip.{Chip}
+use Rattle.schedule.specs.Kind.{kindOf}
+use Rattle.chip.proofs.Fine.{accepted-taken}
 use Rattle.chip.specs.Accept.{accepted, clockFine}
 use Rattle.chip.proofs.Level.{Level, LevelAnswers, picked}
 use Rattle.calls.specs.Calls.{registerRead, registerWritten, expandAt, comparesBy, controlsPlaced, displayPlaced, lateAt, lateTaken, phi1, dmaCount}
@@ -53,8 +55,8 @@ module _ {a b : Chip} (e : Level a b) where
   expand-level v =
       record {
         side =
-            ap (λ (s : Side). sprites≔ (expandWritten v (s .beam .cycle) (a .regs .yexp) (s .sprites)) s) (e .side)
-            ∙ ap (λ (y : ℕ). sprites≔ (expandWritten v (b .side .beam .cycle) y (b .side .sprites)) (b .side)) (file .yexp);
+            ap (λ (s : Side). sprites≔ (expandWritten (kindOf (s .beam .kind)) v (s .beam .cycle) (a .regs .yexp) (s .sprites)) s) (e .side)
+            ∙ ap (λ (y : ℕ). sprites≔ (expandWritten (kindOf (b .side .beam .kind)) v (b .side .beam .cycle) y (b .side .sprites)) (b .side)) (file .yexp);
         registers = simp (file .den, file .rsel, file .yscroll, file .csel, file .compare, file .my, file .enable);
       }
 
@@ -89,7 +91,7 @@ module _ {a b : Chip} (e : Level a b) where
   pub late-level : (v w : ℕ) → accepted a ≡ true → accepted b ≡ true → LevelAnswers (lateTaken a v) (lateTaken b w)
   unfolding lateTaken
   late-level v w f g =
-      rw (f, g)
+      rw (accepted-taken a f, accepted-taken b g)
       (record {
         refused = refl;
         chip = subst (λ (p : Pending). Level (lateAt a v (a .side .pending .place)) (lateAt b w p)) (ap (λ (s : Side). s .pending .place) (e .side)) (late-at v w (a .side .pending .place));

@@ -1,13 +1,14 @@
 -- Every other public call on a chip.
 use Prim.Native.Nat.{ℕ}
 use mathlib.Core.Bool.{Bool, cond}
-use lib.Dec.{ltb}
+use lib.Dec.{eqb, ltb}
 use lib.IntN.{ℤ}
 use lib.ListN.{set}
 use Rattle.registers.specs.Control.{RSEL}
 use Rattle.registers.specs.Registers.{written, controlled, expanded}
 use Rattle.registers.specs.Read.{readOf}
 use Rattle.registers.specs.Irq.{irqWritten}
+use Rattle.schedule.specs.Kind.{kindOf}
 use Rattle.schedule.specs.Requests.{spritesIn}
 use Rattle.border.specs.Border.{compared}
 use Rattle.sprites.specs.Sprites.{expandWritten}
@@ -22,7 +23,7 @@ use Rattle.picture.specs.Set.{changing≔, forced≔}
 use Rattle.chip.specs.declared.Chip.{Chip}
 use Rattle.chip.specs.declared.Answer.{Answer}
 use Rattle.chip.specs.Set.{regs≔, side≔, picture≔, matrix≔, pen≔}
-use Rattle.chip.specs.Accept.{accepted, clockFine}
+use Rattle.chip.specs.Accept.{stateRefusal, clockFine}
 use Rattle.chip.specs.Chip.{answer}
 
 -- Bauer 3.2: the raster that a read shows is the beam's
@@ -38,7 +39,7 @@ registerWritten c addr v =
 unfoldable pub expandAt : Chip → ℕ → Chip
 expandAt c v =
     regs≔ (expanded (c .regs) v)
-    (side≔ (sprites≔ (expandWritten v (c .side .beam .cycle) (c .regs .yexp) (c .side .sprites)) (c .side)) c)
+    (side≔ (sprites≔ (expandWritten (kindOf (c .side .beam .kind)) v (c .side .beam .cycle) (c .regs .yexp) (c .side .sprites)) (c .side)) c)
 
 -- 01, Run file kind 5: by ctrl1's RSEL
 unfoldable pub comparesBy : Chip → Chip
@@ -64,13 +65,13 @@ lateAt c byte Nothing = c
 lateAt c byte (At p) =
     side≔ (pending≔ (waits Nothing) (c .side)) (picture≔ (matrix≔ (set (c .picture .matrix) p (lateWord byte)) (c .picture)) c)
 
--- 01, Numbers: 3 where the state is not accepted
+-- 01, Numbers; 02 (iv): refused for its state as a tick is
 unfoldable pub lateTaken : Chip → ℕ → Answer
-lateTaken c byte = cond (accepted c) (answer 0 (lateAt c byte (c .side .pending .place))) (answer 3 c)
+lateTaken c byte = cond (eqb (stateRefusal c) 0) (answer 0 (lateAt c byte (c .side .pending .place))) (answer (stateRefusal c) c)
 
 -- 01, Arbitration
 unfoldable pub phi1 : Chip → Bool
-phi1 c = phi1High (c .side .beam .ba) (c .side .sprites .dma) (c .side .sprites .prev) (c .side .beam .cycle)
+phi1 c = phi1High (kindOf (c .side .beam .kind)) (c .side .beam .ba) (c .side .sprites .dma) (c .side .sprites .prev) (c .side .beam .cycle)
 
 -- 01: the number of sprites with DMA on
 unfoldable pub dmaCount : Chip → ℕ

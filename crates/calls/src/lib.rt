@@ -43,7 +43,7 @@ pub fn write_y_expand(mut chip: Chip, value: u8) -> Chip
     let mut side = chip.side;
     let beam = side.beam;
     let sprites = side.sprites;
-    let turned = sprites.write_y_expand(value, beam.cycle, regs.yexp);
+    let turned = sprites.write_y_expand(beam.kind, value, beam.cycle, regs.yexp);
     let stored = regs.expand(value);
     side.sprites = turned;
     chip.regs = stored;
@@ -147,10 +147,10 @@ fn fill_late(mut chip: Chip, place: u8, byte: u8) -> Chip
 pub fn late_byte(chip: Chip, byte: u8) -> Answer
     ensures { λ r. ⌜ r ≡ lateTaken chip byte ⌝ }
 {
-    let fine = chip::is_accepted(chip);
-    if !fine {
+    let state = chip::state_refusal(chip);
+    if state != 0 {
         return Answer {
-            refused: 3,
+            refused: state,
             chip: chip,
         };
     }
@@ -175,7 +175,7 @@ pub fn ba_high_at_phi1(chip: Chip) -> bool
     let side = chip.side;
     let beam = side.beam;
     let sprites = side.sprites;
-    arbitration::ba_high_at_phi1(beam.ba, sprites.dma, sprites.prev, beam.cycle)
+    arbitration::ba_high_at_phi1(beam.kind, beam.ba, sprites.dma, sprites.prev, beam.cycle)
 }
 
 // How many sprites have DMA on.

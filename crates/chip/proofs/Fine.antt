@@ -1,13 +1,13 @@
 -- What acceptance says, as facts, both ways; the state of power-up is accepted. Assumes nothing.
 use Prim.Native.Nat.{ℕ, _≤_}
-use mathlib.Core.Path.{_≡_}
-use mathlib.Core.Bool.{Bool, true, false}
+use mathlib.Core.Path.{_≡_, refl}
+use mathlib.Core.Bool.{Bool, true, false, cond}
 use native.Mathlib.Omega.{arith}
 use borrow.Author.Tests.{leb-true, le-leb}
 use lib.Dec.{leb}
 use Rattle.laws.specs.Clock.{inRange}
 use Rattle.laws.proofs.Choice.{and-false}
-use Rattle.schedule.specs.Kind.{lastCycle, lastLine}
+use Rattle.schedule.specs.Kind.{known, kindOf, lastCycle, lastLine}
 use Rattle.sprites.specs.Fine.{fineTest}
 use Rattle.sprites.proofs.Kept.{fine-test-true, fine-test-fine}
 use Rattle.side.specs.Fine.{FineSide}
@@ -16,7 +16,7 @@ use Rattle.side.proofs.Kept.{fresh-fine}
 use Rattle.picture.proofs.Laws.{fresh-forced}
 use Rattle.chip.specs.declared.Chip.{Chip}
 use Rattle.chip.specs.Chip.{powered}
-use Rattle.chip.specs.Accept.{aecFine, accepted}
+use Rattle.chip.specs.Accept.{aecFine, accepted, stateRefusal}
 use Rattle.chip.proofs.Accepted.{clock-fine-range, range-clock-fine, aec-fine-counted, counted-aec-fine, place-fine-pends, pends-place-fine, unless, accepted-forced, accepted-clock, accepted-place}
 
 -- what the acceptance says, as facts
@@ -31,9 +31,10 @@ accepted-fine c e =
     let s = c .side in
     record {
       side = record {
-        first = at-most 1 (s .beam .cycle) (λ h. simp h);
-        last = at-most (s .beam .cycle) lastCycle (λ h. simp (h, and-false));
-        raster = at-most (s .beam .raster) lastLine (λ h. simp (h, and-false));
+        kind = holds (known (s .beam .kind)) (λ h. simp h);
+        first = at-most 1 (s .beam .cycle) (λ h. simp (h, and-false));
+        last = at-most (s .beam .cycle) (lastCycle (kindOf (s .beam .kind))) (λ h. simp (h, and-false));
+        raster = at-most (s .beam .raster) (lastLine (kindOf (s .beam .kind))) (λ h. simp (h, and-false));
         aec = aec-fine-counted (s .bus .aec) (holds (aecFine (s .bus .aec)) (λ h. simp (h, and-false)));
         rows = record {
           vc = at-most (s .rows .vc) 1023 (λ h. simp (h, and-false));
@@ -60,6 +61,7 @@ unfolding accepted
 fine-accepted c f =
     let s = f .side in
     rw (
+      s .kind,
       le-leb _ _ (s .first),
       le-leb _ _ (s .last),
       le-leb _ _ (s .raster),
@@ -75,6 +77,48 @@ fine-accepted c f =
       range-clock-fine (c .picture .pen .forced) (f .forced),
     )
 
-pub powered-accepted : accepted powered ≡ true
+-- power-up of a known kind
+pub powered-accepted : (kind : ℕ) → known kind ≡ true → accepted (powered kind) ≡ true
 unfolding powered
-powered-accepted = fine-accepted powered (record { side = fresh-fine; compare = omega arith; forced = fresh-forced })
+powered-accepted kind e = fine-accepted (powered kind) (record { side = fresh-fine kind e; compare = omega arith; forced = fresh-forced })
+
+-- a state of an unknown kind is never accepted
+pub unknown-refused : (c : Chip) → known (c .side .beam .kind) ≡ false → accepted c ≡ false
+unfolding accepted
+unknown-refused c e = rw e
+
+-- ---- why a state is not taken
+
+taken-both : (k a : Bool) → _≡_ {A = ℕ} (cond k (cond a 0 3) 12) 0 → a ≡ true
+taken-both true true e = refl
+taken-both true false e = absurd (omega arith)
+taken-both false a e = absurd (omega arith)
+
+module _ (c : Chip) where
+  -- an accepted state is taken, and only such a one
+  pub taken-accepted : stateRefusal c ≡ 0 → accepted c ≡ true
+  unfolding stateRefusal
+  taken-accepted e = taken-both (known (c .side .beam .kind)) (accepted c) e
+
+  pub accepted-taken : accepted c ≡ true → stateRefusal c ≡ 0
+  unfolding stateRefusal
+  accepted-taken e = rw (accepted-fine c e .side .kind, e)
+
+  -- 02 (iv): 12 exactly where the kind is unknown
+  pub unknown-12 : known (c .side .beam .kind) ≡ false → stateRefusal c ≡ 12
+  unfolding stateRefusal
+  unknown-12 e = rw e
+
+  pub only-unknown-12 : stateRefusal c ≡ 12 → known (c .side .beam .kind) ≡ false
+  unfolding stateRefusal
+  only-unknown-12 e = by-both (known (c .side .beam .kind)) (accepted c) e
+    where
+      by-both : (k a : Bool) → _≡_ {A = ℕ} (cond k (cond a 0 3) 12) 12 → k ≡ false
+      by-both true true e = absurd (omega arith)
+      by-both true false e = absurd (omega arith)
+      by-both false a e = refl
+
+  -- 3 exactly where the kind is known and the state is not accepted
+  pub unaccepted-3 : known (c .side .beam .kind) ≡ true → accepted c ≡ false → stateRefusal c ≡ 3
+  unfolding stateRefusal
+  unaccepted-3 k e = rw (k, e)

@@ -8,6 +8,7 @@ use lib.IntN.{ℤ, pos, negsuc}
 use lib.Signed.{leZ}
 use borrow.Author.Tests.{le-leb, lt-leb, ne-eqb}
 use Rattle.laws.specs.Clock.{lastClock}
+use Rattle.schedule.specs.Kind.{known, kindOf, lastCycle, lastLine}
 use Rattle.sprites.specs.Fine.{fineTest}
 use Rattle.rows.specs.Fine.{vmliLimit}
 use Rattle.chip.specs.declared.Chip.{Chip}
@@ -24,7 +25,7 @@ unfolding clockFine
 is-clock (pos n) = simp (le-leb 0 n (omega arith))
 is-clock (negsuc n) = refl
 
-pub tested : (c : Chip) {counted eight placed clocked forced : Bool} {limit vmli : ℕ}
+pub tested : (c : Chip) {counted eight placed clocked forced kind : Bool} {limit vmli last bottom : ℕ}
     → counted ≡ aecFine (c .side .bus .aec)
     → clocked ≡ clockFine (c .side .bus .clock)
     → forced ≡ clockFine (c .picture .pen .forced)
@@ -32,7 +33,10 @@ pub tested : (c : Chip) {counted eight placed clocked forced : Bool} {limit vmli
     → eight ≡ fineTest 8 (c .side .sprites)
     → limit ≡ vmliLimit (c .side .beam .cycle)
     → vmli ≡ c .side .rows .vmli
-    → (leb 1 (c .side .beam .cycle) && leb (c .side .beam .cycle) 63 && leb (c .side .beam .raster) 311 && leb (c .regs .compare) 511 && counted && leb (c .side .rows .vc) 1023 && leb (c .side .rows .vcbase) 1023 && leb (c .side .rows .rc) 7 && leb vmli limit && eight && placed && clocked && forced)
+    → kind ≡ known (c .side .beam .kind)
+    → last ≡ lastCycle (kindOf (c .side .beam .kind))
+    → bottom ≡ lastLine (kindOf (c .side .beam .kind))
+    → (kind && leb 1 (c .side .beam .cycle) && leb (c .side .beam .cycle) last && leb (c .side .beam .raster) bottom && leb (c .regs .compare) 511 && counted && leb (c .side .rows .vc) 1023 && leb (c .side .rows .vcbase) 1023 && leb (c .side .rows .rc) 7 && leb vmli limit && eight && placed && clocked && forced)
     ≡ accepted c
 unfolding accepted
-tested c counted clocked forced placed eight limit vmli = simp (counted, clocked, forced, placed, eight, limit, vmli)
+tested c counted clocked forced placed eight limit vmli kind last bottom = simp (counted, clocked, forced, placed, eight, limit, vmli, kind, last, bottom)

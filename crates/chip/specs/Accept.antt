@@ -1,9 +1,10 @@
--- 01, States we accept.
-use mathlib.Core.Bool.{Bool, true, false, _&&_}
+-- 01, States we accept; 02 (iv): the kind sets the limits of cycle and raster line, and an unknown one is never accepted.
+use Prim.Native.Nat.{ℕ}
+use mathlib.Core.Bool.{Bool, true, false, _&&_, cond}
 use lib.IntN.{ℤ, pos, negsuc}
 use lib.Dec.{eqb, leb, ltb}
 use Rattle.laws.specs.Clock.{lastClock}
-use Rattle.schedule.specs.Kind.{lastCycle, lastLine}
+use Rattle.schedule.specs.Kind.{known, kindOf, lastCycle, lastLine}
 use Rattle.sprites.specs.Fine.{fineTest}
 use Rattle.rows.specs.Fine.{vmliLimit}
 use Rattle.rows.specs.declared.Pending.{Pending}
@@ -28,9 +29,11 @@ placeFine (At p) = ltb p 40
 unfoldable pub accepted : Chip → Bool
 accepted c =
     let s = c .side in
-    leb 1 (s .beam .cycle)
-    && leb (s .beam .cycle) lastCycle
-    && leb (s .beam .raster) lastLine
+    let k = kindOf (s .beam .kind) in
+    known (s .beam .kind)
+    && leb 1 (s .beam .cycle)
+    && leb (s .beam .cycle) (lastCycle k)
+    && leb (s .beam .raster) (lastLine k)
     && leb (c .regs .compare) 511
     && aecFine (s .bus .aec)
     && leb (s .rows .vc) 1023
@@ -41,3 +44,7 @@ accepted c =
     && placeFine (s .pending .place)
     && clockFine (s .bus .clock)
     && clockFine (c .picture .pen .forced)
+
+-- 01, Numbers; 02 (iv): 12 where the kind is unknown, then 3 where the state is not accepted; 0 for none
+unfoldable pub stateRefusal : Chip → ℕ
+stateRefusal c = cond (known (c .side .beam .kind)) (cond (accepted c) 0 3) 12

@@ -17,11 +17,11 @@ chip regs side picture = record { regs = regs; side = side; picture = picture }
 abbrev pub answer : ℕ → Chip → Answer
 answer n c = record { refused = n; chip = c }
 
--- 01, power-up: the parts' own values
-unfoldable pub powered : Chip
-powered =
+-- 01, power-up: the parts' own values; 02 (iv): of a kind, which is kept if it is unknown too
+unfoldable pub powered : ℕ → Chip
+powered kind =
     record {
       regs = File.fresh;
-      side = freshSide;
+      side = freshSide kind;
       picture = record { pen = freshPen; matrix = zeros 40; pointers = zeros 8; bytes = zeros 24; words = zeros 8 };
     }

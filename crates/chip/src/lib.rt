@@ -4,7 +4,7 @@ ghost use mathlib.Core.Bool.{Bool};
 ghost use lib.IntN.{ℤ};
 ghost use Rattle.rows.specs.Fine.{vmliLimit};
 ghost use Rattle.chip.specs.Chip.{powered};
-ghost use Rattle.chip.specs.Accept.{aecFine, clockFine, placeFine, accepted};
+ghost use Rattle.chip.specs.Accept.{aecFine, clockFine, placeFine, accepted, stateRefusal};
 use picture::Pen;
 use registers::Registers;
 use rows::Pending;
@@ -30,11 +30,12 @@ pub struct Answer {
     pub chip: Chip,
 }
 
-pub fn power_up() -> Chip
-    ensures { λ r. ⌜ r ≡ powered ⌝ }
+// A kind that is not known is kept, for the tick to refuse.
+pub fn power_up(kind: u8) -> Chip
+    ensures { λ r. ⌜ r ≡ powered kind ⌝ }
 {
     let regs = Registers::new();
-    let side = Side::new();
+    let side = Side::new(kind);
     let pen = Pen::new();
     let picture = Picture {
         pen: pen,
@@ -108,9 +109,13 @@ pub fn is_accepted(chip: Chip) -> bool
     let eight = sprites.fine();
     let limit = vmli_limit(beam.cycle);
     let vmli = laws::wide(rows.vmli);
-    (1 <= beam.cycle)
-        & (beam.cycle <= schedule::LAST_CYCLE)
-        & (beam.raster <= schedule::LAST_LINE)
+    let known = schedule::is_known(beam.kind);
+    let last = schedule::last_cycle(beam.kind);
+    let bottom = schedule::last_line(beam.kind);
+    known
+        & (1 <= beam.cycle)
+        & (beam.cycle <= last)
+        & (beam.raster <= bottom)
         & (regs.compare <= 511)
         & counted
         & (rows.vc <= 1023)
@@ -121,4 +126,21 @@ pub fn is_accepted(chip: Chip) -> bool
         & placed
         & clocked
         & forced
+}
+
+// Why a tick or a late byte does not take this state: 0 where it does.
+pub fn state_refusal(chip: Chip) -> u8
+    ensures { λ r. ⌜ r ≡ stateRefusal chip ⌝ }
+{
+    let side = chip.side;
+    let beam = side.beam;
+    let known = schedule::is_known(beam.kind);
+    if !known {
+        return 12;
+    }
+    let fine = is_accepted(chip);
+    if !fine {
+        return 3;
+    }
+    0
 }

@@ -50,9 +50,9 @@ storeSet part.Steps address value m = m
 
 -- ---- the run
 
--- 01, Run file: memory starts 0, bank 0, the chip as at power-up; no step is done
-unfoldable pub begunOf : Run
-begunOf = record { chip = powered; cursor = startOf; done = 0; bank = 0; going = true }
+-- 01, Run file; 02 (iv): memory starts 0, bank 0, the chip as at power-up of a kind, which no file names; no step is done
+unfoldable pub begunOf : ℕ → Run
+begunOf kind = record { chip = powered kind; cursor = startOf; done = 0; bank = 0; going = true }
 
 abbrev pub cursorAt : Run → Cursor → Run
 cursorAt r c = record { chip = r .chip; cursor = c; done = r .done; bank = r .bank; going = r .going }

@@ -34,10 +34,11 @@ pub struct Made {
 
 // ---- the run
 
-pub fn begun() -> Run
-    ensures { λ r. ⌜ r ≡ begunOf ⌝ }
+// A run file does not say of which kind its chip is.
+pub fn begun(kind: u8) -> Run
+    ensures { λ r. ⌜ r ≡ begunOf kind ⌝ }
 {
-    let chip = chip::power_up();
+    let chip = chip::power_up(kind);
     let cursor = Cursor::start();
     Run {
         chip,

@@ -34,7 +34,7 @@ fn main() {
     let ram = [0u8; 16384];
     let rom = [0u8; 4096];
     let colour = [0u8; 1024];
-    let start = chip::power_up();
+    let start = chip::power_up(schedule::KIND_6569);
     show(sequencer::ticks(start, &ram, &rom, &colour, 0, 63));
     show(sequencer::ticks(start, &ram, &rom, &colour, 0, 19656));
     show(sequencer::ticks(start, &ram, &rom, &colour, 0, 58968));

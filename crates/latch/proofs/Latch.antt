@@ -7,7 +7,7 @@ use native.Mathlib.Omega.{arith}
 use borrow.Author.Tests.{ne-eqb}
 use lib.ListN.{length}
 use Rattle.laws.proofs.Choice.{or-false}
-use Rattle.schedule.specs.Kind.{lastCycle}
+use Rattle.schedule.specs.Kind.{kindOf, lastCycle}
 use Rattle.schedule.proofs.Laws.{not-begun}
 use Rattle.registers.specs.declared.Controls.{Controls}
 use Rattle.timing.specs.Beam.{nextCycle}
@@ -17,7 +17,7 @@ use Rattle.raster.specs.declared.Swept.{Swept}
 use Rattle.raster.proofs.Laws.{Stored, swept-inside, swept-stores, kept-elsewhere}
 use Rattle.side.specs.declared.Side.{Side}
 use Rattle.side.specs.Turn.{turned}
-use Rattle.side.proofs.Kept.{side-cycle, side-raster, side-latch, side-frame}
+use Rattle.side.proofs.Kept.{side-kind, side-cycle, side-raster, side-latch, side-frame}
 use Rattle.latch.specs.Latch.{ran, someDen, Before, WhetherDenWasSet, sweepOf, OnlyTheFramesEnd}
 
 either-way : (a b : Bool) → (a || b) ≡ (b || a)
@@ -31,18 +31,21 @@ regroup true b c = refl
 regroup false b c = refl
 
 -- some way on line 0x30
-record On (s : Side) (c : ℕ) (l : Bool) : Type 0 where
+record On (of : ℕ) (s : Side) (c : ℕ) (l : Bool) : Type 0 where
+  pub kind : s .beam .kind ≡ of
   pub cycle : s .beam .cycle ≡ c
   pub raster : s .beam .raster ≡ 0x30
   pub ending : s .frame .ending ≡ false
   pub latch : s .beam .latch ≡ l
 
 -- its first tick
-first : (s : Side) (g : Controls) → Before s → On (turned g s .side) 1 (g .den)
+first : (s : Side) (g : Controls) → Before s → On (s .beam .kind) (turned g s .side) 1 (g .den)
 first s g b =
-    let wraps : nextCycle (s .beam .cycle) ≡ 1 = cycle-wraps (s .beam .cycle) (omega (arith, b .cycle)) in
-    let w : Stored (g .den) (sweepOf g s) = rw (wraps, b .raster) (swept-stores (s .frame) (s .irq) (g .compare) (g .den) (s .beam .latch) (b .ending)) in
+    let k = kindOf (s .beam .kind) in
+    let wraps : nextCycle k (s .beam .cycle) ≡ 1 = cycle-wraps k (s .beam .cycle) (omega (arith, b .cycle)) in
+    let w : Stored (g .den) (sweepOf g s) = rw (wraps, b .raster) (swept-stores k (s .frame) (s .irq) (g .compare) (g .den) (s .beam .latch) (b .ending)) in
     record {
+      kind = side-kind g s;
       cycle = side-cycle g s ∙ wraps;
       raster = side-raster g s ∙ w .raster;
       ending = ap (λ (f : Frame). f .ending) (side-frame g s) ∙ w .ending;
@@ -50,11 +53,13 @@ first s g b =
     }
 
 -- and each later one
-next : (s : Side) (g : Controls) (c : ℕ) (l : Bool) → 1 ≤ c → c < lastCycle → On s c l → On (turned g s .side) (c + 1) (l || g .den)
-next s g c l low high o =
-    let on : nextCycle (s .beam .cycle) ≡ c + 1 = rw (o .cycle) (cycle-next c high) in
-    let w = swept-inside (s .frame) (s .irq) (nextCycle (s .beam .cycle)) (s .beam .raster) (g .compare) (g .den) (s .beam .latch) (rw on (not-begun c low)) (o .ending) in
+next : (kind : ℕ) (s : Side) (g : Controls) (c : ℕ) (l : Bool) → 1 ≤ c → c < lastCycle (kindOf kind) → On kind s c l → On kind (turned g s .side) (c + 1) (l || g .den)
+next kind s g c l low high o =
+    let k = kindOf (s .beam .kind) in
+    let on : nextCycle k (s .beam .cycle) ≡ c + 1 = rw (o .kind, o .cycle) (cycle-next (kindOf kind) c high) in
+    let w = swept-inside k (s .frame) (s .irq) (nextCycle k (s .beam .cycle)) (s .beam .raster) (g .compare) (g .den) (s .beam .latch) (rw on (not-begun c low)) (o .ending) in
     record {
+      kind = side-kind g s ∙ o .kind;
       cycle = side-cycle g s ∙ on;
       raster = side-raster g s ∙ ap (λ (x : Swept). x .raster) (sym w) ∙ o .raster;
       ending = ap (λ (f : Frame). f .ending) (side-frame g s) ∙ ap (λ (x : Swept). x .frame .ending) (sym w) ∙ o .ending;
@@ -62,15 +67,15 @@ next s g c l low high o =
     }
 
 -- any number of them
-rest : (more : List Controls) (s : Side) (c : ℕ) (l : Bool) → 1 ≤ c → c + length more ≤ lastCycle → On s c l → ran more s .beam .latch ≡ (l || someDen more)
+rest : (kind : ℕ) (more : List Controls) (s : Side) (c : ℕ) (l : Bool) → 1 ≤ c → c + length more ≤ lastCycle (kindOf kind) → On kind s c l → ran more s .beam .latch ≡ (l || someDen more)
 unfolding ran someDen
-rest [] s c l low high o = o .latch ∙ sym (or-false l)
-rest (g ∷ more) s c l low high o =
-    rest more (turned g s .side) (c + 1) (l || g .den) (omega arith) (omega arith) (next s g c l low (omega arith) o) ∙ regroup l (g .den) (someDen more)
+rest kind [] s c l low high o = o .latch ∙ sym (or-false l)
+rest kind (g ∷ more) s c l low high o =
+    rest kind more (turned g s .side) (c + 1) (l || g .den) (omega arith) (omega arith) (next kind s g c l low (omega arith) o) ∙ regroup l (g .den) (someDen more)
 
 pub latch-is-whether-den-was-set : WhetherDenWasSet
 unfolding ran someDen
-latch-is-whether-den-was-set s g more b h = rest more (turned g s .side) 1 (g .den) (omega arith) (omega arith) (first s g b)
+latch-is-whether-den-was-set s g more b h = rest (s .beam .kind) more (turned g s .side) 1 (g .den) (omega arith) (omega arith) (first s g b)
 
 pub elsewhere-only-the-frames-end : OnlyTheFramesEnd
-elsewhere-only-the-frames-end g s e = side-latch g s ∙ kept-elsewhere (s .frame) (s .irq) (nextCycle (s .beam .cycle)) (s .beam .raster) (g .compare) (g .den) (s .beam .latch) e
+elsewhere-only-the-frames-end g s e = side-latch g s ∙ kept-elsewhere (kindOf (s .beam .kind)) (s .frame) (s .irq) (nextCycle (kindOf (s .beam .kind)) (s .beam .cycle)) (s .beam .raster) (g .compare) (g .den) (s .beam .latch) e

@@ -3,10 +3,11 @@ use Prim.Native.Nat.{ℕ}
 use mathlib.Core.Path.{_≡_}
 use mathlib.Core.Bool.{Bool, true, false, not, _&&_}
 use mathlib.Core.List.{List}
+use lib.Dec.{eqb}
 use lib.IntN.{ℤ}
 use borrow.Author.Tests.{not-true, not-false}
 use Rattle.laws.specs.Pick.{pick}
-use Rattle.schedule.specs.Diagram.{happens, graphicsCleared, lateIdle, pointerOf}
+use Rattle.schedule.specs.Diagram.{happens, graphicsCleared, lateIdle}
 use Rattle.memory.specs.Memory.{readAt}
 use Rattle.memory.specs.declared.Found.{Found}
 use Rattle.access.specs.declared.Latch.{Latch}
@@ -72,14 +73,13 @@ module _ (m : List ℕ) (orders : Orders) (clock : ℤ) (p : Pen) (mode ptrs : �
 
 -- a pointer slot, and a data slot
 module _ (p b w : List ℕ) (orders : Orders) (ptrs : ℕ) (ram rom : List ℕ) (bank : ℕ) where
-  pub pointed : {p' b' : List ℕ} {first : Bool}
+  pub pointed : {p' b' : List ℕ}
       → orders .pointing ≡ true
-      → first ≡ happens (pointerOf 0) (orders .cycle)
       → p' ≡ pointersAfter p (orders .sprite) ptrs ram rom bank
-      → b' ≡ byteTwoAfter b (orders .sprite) first (orders .mask && orders .flag) (orders .mc) (orders .low) ptrs ram rom bank
+      → b' ≡ byteTwoAfter b (orders .sprite) (eqb (orders .sprite) 0) (orders .mask && orders .flag) (orders .mc) (orders .low) ptrs ram rom bank
       → (p' ≡ slotted p b w orders ptrs ram rom bank .pointers) × ((b' ≡ slotted p b w orders ptrs ram rom bank .bytes) × (w ≡ slotted p b w orders ptrs ram rom bank .words))
   unfolding slotted
-  pointed t first pointers bytes = (simp (pointers, t), (simp (bytes, first, t), simp t))
+  pointed t pointers bytes = (simp (pointers, t), (simp (bytes, t), simp t))
 
   pub fetched : {b' w' : List ℕ}
       → orders .pointing ≡ false

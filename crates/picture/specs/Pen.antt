@@ -5,7 +5,7 @@ use mathlib.Core.List.{List}
 use lib.IntN.{ℤ, pos, negsuc}
 use lib.Dec.{eqb}
 use Rattle.laws.specs.Pick.{pick}
-use Rattle.schedule.specs.Diagram.{happens, graphicsCleared, lateIdle, pointerOf}
+use Rattle.schedule.specs.Diagram.{happens, graphicsCleared, lateIdle}
 use Rattle.memory.specs.Memory.{readAt}
 use Rattle.access.specs.Matrix.{filled}
 use Rattle.access.specs.Merge.{sinceOf, Merging, merging, latched}
@@ -65,13 +65,13 @@ pub record Latches : Type 0 where
   pub bytes : List ℕ
   pub words : List ℕ
 
--- DECISIONS 22: pointer and byte 2, or bytes 1 and 0 and the word; sprite 0's byte 2 in the cycle that loads MC wants the bus
+-- DECISIONS 22: pointer and byte 2, or bytes 1 and 0 and the word; sprite 0's byte 2, in the cycle that loads MC, wants the bus
 unfoldable pub slotted : List ℕ → List ℕ → List ℕ → Orders → ℕ → List ℕ → List ℕ → ℕ → Latches
 slotted pointers bytes words orders ptrs ram rom bank =
     cond (orders .pointing)
     (record {
       pointers = pointersAfter pointers (orders .sprite) ptrs ram rom bank;
-      bytes = byteTwoAfter bytes (orders .sprite) (happens (pointerOf 0) (orders .cycle)) (orders .mask && orders .flag) (orders .mc) (orders .low) ptrs ram rom bank;
+      bytes = byteTwoAfter bytes (orders .sprite) (eqb (orders .sprite) 0) (orders .mask && orders .flag) (orders .mc) (orders .low) ptrs ram rom bank;
       words = words;
     })
     (cond (orders .fetching)

@@ -209,7 +209,7 @@ pub fn slot(
             pointers,
             bytes,
             k,
-            schedule::first_slot(orders.cycle),
+            k == 0,
             orders.mask & orders.flag,
             orders.mc,
             orders.low,

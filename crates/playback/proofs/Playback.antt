@@ -25,7 +25,7 @@ use Rattle.vcd.specs.declared.Record.{Record}
 use Rattle.vcd.specs.Signals.{Within}
 use Rattle.vcd.specs.Text.{refusalText, dumpText}
 use Rattle.wave.specs.Wave.{recordOf}
-use Rattle.wave.proofs.Thirteen.{tick-number}
+use Rattle.sequencer.proofs.Numbers.{tick-number}
 use Rattle.wave.proofs.Widths.{ticked-within}
 use Rattle.tape.specs.Dump.{Played, recordsBy, refusalBy, played, playedOf, dumpOf}
 use Rattle.tape.proofs.Turns.{Over, made-over, is-over}
@@ -128,6 +128,6 @@ by-ending rs tail (refused number done) f h = refused-text-reads-back rs number 
 
 pub run-file-reads-back : RunFileReadsBack
 unfolding dumpOf playedOf
-run-file-reads-back m s h =
+run-file-reads-back kind m s h =
     let p = sound (length s + 1) s m _ in
-    by-ending (playedOf m s .records) (playedOf m s .refusal) (p .ends) (p .within) (omega (arith, h, p .few))
+    by-ending (playedOf kind m s .records) (playedOf kind m s .refusal) (p .ends) (p .within) (omega (arith, h, p .few))

@@ -33,7 +33,7 @@ fn declare(out: &mut [u8]) {
 
 // Ticks from power-up, and the last chip.
 fn ticks(n: u16, ram: &[u8], rom: &[u8], colour: &[u8], out: &mut [u8]) -> Chip {
-    let mut chip = chip::power_up();
+    let mut chip = chip::power_up(schedule::KIND_6569);
     let mut wave = vcd::fresh();
     let mut left = n;
     while 0 < left {

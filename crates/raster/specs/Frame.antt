@@ -5,6 +5,7 @@ use lib.Dec.{eqb}
 use Rattle.laws.specs.Pick.{pick}
 use Rattle.registers.specs.declared.Irq.{Irq}
 use Rattle.registers.specs.Irq.{triggered}
+use Rattle.schedule.specs.Kind.{Kind}
 use Rattle.schedule.specs.Diagram.{happens, lineBegins, frameEnds}
 use Rattle.timing.specs.Beam.{nextLine, atLastLine, latched}
 use Rattle.raster.specs.declared.Frame.{Frame}
@@ -16,8 +17,8 @@ unfoldable pub fresh : Frame
 fresh = record { ending = false; matched = false }
 
 -- 01, tick 3: raster +1, but the last line stays
-unfoldable pub rasterBegun : Bool → ℕ → ℕ
-rasterBegun begins raster = cond begins (nextLine raster) raster
+unfoldable pub rasterBegun : Kind → Bool → ℕ → ℕ
+rasterBegun k begins raster = cond begins (nextLine k raster) raster
 
 -- 01, tick 3; departs, DIFFERENCES 26: an equal line raises the raster interrupt once while matched
 unfoldable pub matchRaises : Bool → Bool → Bool
@@ -37,12 +38,12 @@ unfoldable pub frameEnded : Frame → Bool → Frame
 frameEnded f wraps = cond wraps (ending≔ false f) f
 
 -- what the line and the frame do in a cycle, and what the rest of the tick reads of it
-unfoldable pub swept : Frame → Irq → ℕ → ℕ → ℕ → Bool → Bool → Swept
-swept f i cycle before compare den latch =
+unfoldable pub swept : Kind → Frame → Irq → ℕ → ℕ → ℕ → Bool → Bool → Swept
+swept k f i cycle before compare den latch =
     -- tick 3: a line begins
     let begins = happens lineBegins cycle in
-    let line = rasterBegun begins before in
-    let begun = frameBegun f begins (begins && atLastLine before) line compare in
+    let line = rasterBegun k begins before in
+    let begun = frameBegun f begins (begins && atLastLine k before) line compare in
     -- tick 4: a frame ends
     let wraps = happens frameEnds cycle && begun .ending in
     record {

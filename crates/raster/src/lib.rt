@@ -1,6 +1,7 @@
 // The line and the frame: where a line begins and a frame ends, the raster match, and the interrupt that it raises.
 ghost use mathlib.Core.Path.{_≡_};
 ghost use Prim.Native.Nat.{_<_};
+ghost use Rattle.schedule.specs.Kind.{kindOf};
 ghost use Rattle.raster.specs.Frame.{fresh, rasterBegun, matchRaises, frameBegun, frameEnded, raised, swept};
 use registers::Irq;
 
@@ -22,11 +23,11 @@ pub struct Swept {
     pub irq: Irq,
 }
 
-fn raster_begun(begins: bool, raster: u16) -> u16
-    ensures { λ r. ⌜ r ≡ rasterBegun begins raster ⌝ }
+fn raster_begun(kind: u8, begins: bool, raster: u16) -> u16
+    ensures { λ r. ⌜ r ≡ rasterBegun (kindOf kind) begins raster ⌝ }
 {
     if begins {
-        return timing::next_line(raster);
+        return timing::next_line(kind, raster);
     }
     raster
 }
@@ -83,6 +84,7 @@ impl Frame {
 
 // A line begins, and a frame ends.
 fn sweep(
+    kind: u8,
     frame: Frame,
     irq: Irq,
     cycle: u16,
@@ -91,11 +93,11 @@ fn sweep(
     den: bool,
     latch: bool,
 ) -> Swept
-    ensures { λ r. ⌜ r ≡ swept frame irq cycle raster compare den latch ⌝ }
+    ensures { λ r. ⌜ r ≡ swept (kindOf kind) frame irq cycle raster compare den latch ⌝ }
 {
     let begins = schedule::line_begins(cycle);
-    let last = begins & timing::at_last_line(raster);
-    let line = raster_begun(begins, raster);
+    let last = begins & timing::at_last_line(kind, raster);
+    let line = raster_begun(kind, begins, raster);
     let begun = frame.begin(begins, last, line, compare);
     let wraps = schedule::frame_ends(cycle) & begun.ending;
     let shown = laws::pick16(wraps, 0, line);
@@ -117,6 +119,7 @@ fn sweep(
 
 // Past the second cycle neither happens.
 pub fn turn(
+    kind: u8,
     frame: Frame,
     irq: Irq,
     cycle: u16,
@@ -125,8 +128,8 @@ pub fn turn(
     den: bool,
     latch: bool,
 ) -> Swept
-    requires { ⌜ cycle < 64 ⌝ }
-    ensures { λ r. ⌜ r ≡ swept frame irq cycle raster compare den latch ⌝ }
+    requires { ⌜ cycle < 66 ⌝ }
+    ensures { λ r. ⌜ r ≡ swept (kindOf kind) frame irq cycle raster compare den latch ⌝ }
 {
     let later = schedule::later(cycle);
     if later {
@@ -142,5 +145,5 @@ pub fn turn(
             irq: irq,
         };
     }
-    sweep(frame, irq, cycle, raster, compare, den, latch)
+    sweep(kind, frame, irq, cycle, raster, compare, den, latch)
 }

@@ -80,7 +80,15 @@ fn perform(chip: Chip, memories: &[u8], call: u8, bank: u8, a: u8, b: u8, c: u8,
     if call == 8 {
         return valued(high_at_phi1(chip), chip);
     }
-    valued(dma_count(chip), chip)
+    if call == 9 {
+        return valued(dma_count(chip), chip);
+    }
+    valued(0, chip::power_up(a))
+}
+
+// A run file has the first seven, the questions are the next three, and 12 is power-up.
+fn is_call(call: u8) -> bool {
+    (call <= 9) | (call == 12)
 }
 
 // Writes one answer; false where that fails.
@@ -91,7 +99,7 @@ fn tell(told: Told) -> bool {
         (told.value % 256) as u8,
         (told.value / 256) as u8,
     ];
-    let mut body = [0u8; 308];
+    let mut body = [0u8; 309];
     scene::encode(chip, &mut body);
     let written = io::write_all(STDOUT_FILENO, &head);
     if !written {
@@ -109,7 +117,7 @@ fn answer(call: [u8; 6], body: &[u8], memories: &[u8]) -> bool
     if !scene {
         return false;
     }
-    if 9 < call[0] {
+    if !is_call(call[0]) {
         return false;
     }
     let chip = decoded.chip;
@@ -131,13 +139,13 @@ fn one(memories: &[u8]) -> bool
     requires { ⌜ length (now memories) ≡ 21504 ⌝ }
 {
     let mut call = [0u8; 6];
-    let mut body = [0u8; 308];
+    let mut body = [0u8; 309];
     let called = io::read_full(STDIN_FILENO, &mut call);
     let read = io::read_full(STDIN_FILENO, &mut body);
     if called != 6 {
         return false;
     }
-    if read != 308 {
+    if read != 309 {
         return false;
     }
     answer(call, &body, memories)

@@ -6,11 +6,12 @@ use native.Mathlib.Omega.{arith}
 use native.Mathlib.Decide.{decLt}
 use Rattle.laws.specs.Pick.{pick}
 use Rattle.laws.proofs.Choice.{either, left, picks, pick-either}
-use Rattle.schedule.specs.Kind.{lastCycle}
+use Rattle.schedule.specs.Kind.{Kind, lastCycle}
+use Rattle.schedule.proofs.Places.{last-most}
 use Rattle.schedule.specs.Diagram.{happens, firstOf, vcLoad, accessChosen, characterAccess, vmliCounts, graphicsAccess}
 use Rattle.schedule.proofs.Laws.{load-alone, room, room-next, room-wraps}
 use Rattle.timing.specs.Beam.{nextCycle}
-use Rattle.timing.proofs.Kept.{cycle-high, cycle-next, cycle-wraps}
+use Rattle.timing.proofs.Kept.{cycle-small, cycle-next, cycle-wraps}
 use Rattle.rows.specs.declared.Rows.{Rows}
 use Rattle.rows.specs.Rows.{fresh, vcAfter, vmliAfter, rcAfter, rowed}
 use Rattle.rows.specs.Fine.{FineRows, vmliLimit}
@@ -44,38 +45,40 @@ vmli-moves loads moves g v a b m l n h = rw (picks loads 0 v) (cleared loads mov
     cleared false true m l n = let k : a + 1 ≤ b = rw (m refl) at (n refl) in omega arith
     cleared false false m l n = omega (arith, n refl)
 
--- the room of the next cycle
-room-kept : (c : ℕ) → c ≤ lastCycle → happens vcLoad (nextCycle c) ≡ false → vmliLimit c + cond (happens graphicsAccess (nextCycle c)) 1 0 ≤ vmliLimit (nextCycle c)
-unfolding vmliLimit
-room-kept c h e = rw (picks (happens vmliCounts c) (c - firstOf characterAccess) 40, picks (happens vmliCounts (nextCycle c)) (nextCycle c - firstOf characterAccess) 40) (by-place (decLt c lastCycle))
-  where
-    by-place : Dec (c < lastCycle) → room c + cond (happens graphicsAccess (nextCycle c)) 1 0 ≤ room (nextCycle c)
-    by-place (yes l) = rw (cycle-next c l) (room-next c l (rw (cycle-next c l) at e))
-    by-place (no l) =
-        let last : c ≡ lastCycle = omega arith in
-        rw (last, cycle-wraps lastCycle (omega arith)) room-wraps
+module _ (k : Kind) where
+  -- the room of the next cycle
+  room-kept : (c : ℕ) → c ≤ lastCycle k → happens vcLoad (nextCycle k c) ≡ false → vmliLimit c + cond (happens graphicsAccess (nextCycle k c)) 1 0 ≤ vmliLimit (nextCycle k c)
+  unfolding vmliLimit
+  room-kept c h e =
+      rw (picks (happens vmliCounts c) (c - firstOf characterAccess) 40, picks (happens vmliCounts (nextCycle k c)) (nextCycle k c - firstOf characterAccess) 40) (by-place (decLt c (lastCycle k)))
+    where
+      by-place : Dec (c < lastCycle k) → room c + cond (happens graphicsAccess (nextCycle k c)) 1 0 ≤ room (nextCycle k c)
+      by-place (yes l) = rw (cycle-next k c l) (room-next c (omega (arith, last-most k)) (rw (cycle-next k c l) at e))
+      by-place (no l) =
+          let last : c ≡ lastCycle k = omega arith in
+          rw (last, cycle-wraps k (lastCycle k) (omega arith)) (room-wraps k)
 
-vmli-kept : (c v : ℕ) (moves : Bool) → c ≤ lastCycle → (moves ≡ true → happens graphicsAccess (nextCycle c) ≡ true) → v ≤ vmliLimit c
-    → vmliAfter 1 moves (pick (happens vcLoad (nextCycle c)) 0 v) ≤ vmliLimit (nextCycle c)
-vmli-kept c v moves h m l =
-    vmli-moves (happens vcLoad (nextCycle c)) moves (happens graphicsAccess (nextCycle c)) v (vmliLimit c) (vmliLimit (nextCycle c)) m
-    (load-alone (nextCycle c) (cycle-high c)) (room-kept c h) l
+  vmli-kept : (c v : ℕ) (moves : Bool) → c ≤ lastCycle k → (moves ≡ true → happens graphicsAccess (nextCycle k c) ≡ true) → v ≤ vmliLimit c
+      → vmliAfter 1 moves (pick (happens vcLoad (nextCycle k c)) 0 v) ≤ vmliLimit (nextCycle k c)
+  vmli-kept c v moves h m l =
+      vmli-moves (happens vcLoad (nextCycle k c)) moves (happens graphicsAccess (nextCycle k c)) v (vmliLimit c) (vmliLimit (nextCycle k c)) m
+      (load-alone (nextCycle k c) (cycle-small k c)) (room-kept c h) l
 
--- a tick keeps the rows of a state we accept
-pub rows-kept : (c : ℕ) (bad rising wraps : Bool) (r : Rows) → c ≤ lastCycle → FineRows c r → FineRows (nextCycle c) (rowed (nextCycle c) bad rising wraps r .rows)
-unfolding rowed
-rows-kept c bad rising wraps r h f =
-    let loads = happens vcLoad (nextCycle c) in
-    let graphics = happens graphicsAccess (nextCycle c) in
-    let shows = r .display || rising in
-    let free = not (r .transition && not (happens accessChosen (nextCycle c))) in
-    let vc : pick loads (r .vcbase) (r .vc) ≤ 1023 = pick-either (λ (m : ℕ). m ≤ 1023) loads (f .vcbase) (f .vc) in
-    record {
-      vc = vc-kept _ _ vc;
-      vcbase = pick-either (λ (m : ℕ). m ≤ 1023) _ vc (pick-either (λ (m : ℕ). m ≤ 1023) wraps (omega arith) (f .vcbase));
-      rc = rc-kept _ _ (pick-either (λ (m : ℕ). m ≤ 7) (loads && bad) (omega arith) (f .rc));
-      vmli = vmli-kept c (r .vmli) (graphics && shows && free) h (λ e. left graphics shows (left (graphics && shows) free e)) (f .vmli);
-    }
+  -- a tick keeps the rows of a state we accept
+  pub rows-kept : (c : ℕ) (bad rising wraps : Bool) (r : Rows) → c ≤ lastCycle k → FineRows c r → FineRows (nextCycle k c) (rowed (nextCycle k c) bad rising wraps r .rows)
+  unfolding rowed
+  rows-kept c bad rising wraps r h f =
+      let loads = happens vcLoad (nextCycle k c) in
+      let graphics = happens graphicsAccess (nextCycle k c) in
+      let shows = r .display || rising in
+      let free = not (r .transition && not (happens accessChosen (nextCycle k c))) in
+      let vc : pick loads (r .vcbase) (r .vc) ≤ 1023 = pick-either (λ (m : ℕ). m ≤ 1023) loads (f .vcbase) (f .vc) in
+      record {
+        vc = vc-kept _ _ vc;
+        vcbase = pick-either (λ (m : ℕ). m ≤ 1023) _ vc (pick-either (λ (m : ℕ). m ≤ 1023) wraps (omega arith) (f .vcbase));
+        rc = rc-kept _ _ (pick-either (λ (m : ℕ). m ≤ 7) (loads && bad) (omega arith) (f .rc));
+        vmli = vmli-kept c (r .vmli) (graphics && shows && free) h (λ e. left graphics shows (left (graphics && shows) free e)) (f .vmli);
+      }
 
 pub fresh-fine : (cycle : ℕ) → FineRows cycle fresh
 unfolding fresh

@@ -5,7 +5,6 @@ use Prim.Native.Nat.{ℕ, suc, _-_, _<_, _≤_}
 use native.Mathlib.Omega.{arith}
 use borrow.Author.Tests.{not-true, not-false}
 use Rattle.laws.proofs.Choice.{either, picks}
-use Rattle.schedule.specs.Kind.{lastCycle}
 use Rattle.schedule.specs.Diagram.{happens, firstOf, characterAccess, vmliCounts}
 use Rattle.rows.specs.declared.Waits.{Waits}
 use Rattle.rows.specs.Pending.{placeOf, pendingAfter, Pends}
@@ -27,7 +26,7 @@ unfolding pendingAfter
 none-missed vmli old = refl
 
 -- VMLI is far within its byte
-pub limit-small : (cycle : ℕ) → cycle ≤ lastCycle → vmliLimit cycle < 256
+pub limit-small : (cycle : ℕ) → cycle < 66 → vmliLimit cycle < 256
 unfolding vmliLimit
 limit-small cycle h = rw (picks (happens vmliCounts cycle) (cycle - firstOf characterAccess) 40) (either (λ (n : ℕ). n < 256) (happens vmliCounts cycle) (omega arith) (omega arith))
 

@@ -218,7 +218,7 @@ pub fn turn_lit(rows: Rows, cycle: u16, bad: bool, rising: bool) -> Rowed
 
 // In most cycles without a graphics access no counter moves.
 pub fn turn_dark(rows: Rows, cycle: u16, bad: bool, rising: bool, wraps: bool) -> Rowed
-    requires { ⌜ cycle < 64 ⌝ }
+    requires { ⌜ cycle < 66 ⌝ }
     ensures { λ r. ⌜ r ≡ rowed cycle bad rising wraps rows ⌝ }
 {
     let still = schedule::still(cycle);

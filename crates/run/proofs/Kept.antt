@@ -7,7 +7,7 @@ use Rattle.memory.specs.Lent.{Host}
 use Rattle.script.specs.declared.Step.{Step}
 use Rattle.script.specs.declared.Step.the-variants as step
 use Rattle.chip.specs.declared.Chip.{Chip}
-use Rattle.chip.specs.Accept.{accepted, clockFine}
+use Rattle.chip.specs.Accept.{stateRefusal, clockFine}
 use Rattle.chip.specs.Chip.{answer}
 use Rattle.sequencer.specs.Tick.{ticked, tickRefusal}
 use Rattle.calls.specs.Calls.{controlsPlaced, displayPlaced, lateTaken}
@@ -28,7 +28,7 @@ refused-keeps h c step.Tick e = (taken-or (eqb (tickRefusal h c) 0) _ _ c e, ref
 refused-keeps h c (step.Write address value) e = absurd (e refl)
 refused-keeps h c (step.Expand value) e = absurd (e refl)
 refused-keeps h c (step.Controls ctrl1 ctrl2 compare) e = (or-taken (ltb 511 compare) _ _ c e, refl)
-refused-keeps h c (step.Late value) e = (taken-or (accepted c) _ _ c e, refl)
+refused-keeps h c (step.Late value) e = (taken-or (eqb (stateRefusal c) 0) _ _ c e, refl)
 refused-keeps h c step.Borders e = absurd (e refl)
 refused-keeps h c (step.Display shown transition access changing) e = (taken-or (clockFine (c .side .bus .clock)) _ _ c e, refl)
 refused-keeps h c (step.Bank bank) e = absurd (e refl)

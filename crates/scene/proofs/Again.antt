@@ -14,6 +14,7 @@ use Rattle.laws.specs.Bytes.{lowByte, highByte, word}
 use Rattle.laws.proofs.Choice.{left, right}
 use Rattle.sprites.specs.Sprites.{spriteAt}
 use Rattle.scene.specs.Numbers.{bits, bitBytes, byteAt, longAt, clockAt, clockOf, aecOf}
+use Rattle.scene.specs.Versions.{isNewest}
 use Rattle.scene.specs.Decode as read
 use Rattle.scene.specs.Decode.{beamAt, registersAt, irqAt, borderAt, spritesAt, wordsAt, matrixAt, busAt, penAt, sideAt, pictureAt, chipAt, headFine, isFlag, earlyFlags, spriteFlags, lateFlags, rangesFine, fieldsFine}
 use Rattle.scene.specs.Encode.{headBytes, registerBytes, maskBytes, spriteBytes, spriteRows, entryBytes, restOf, clockBytes, clocksBytes, encoded}
@@ -36,7 +37,7 @@ each-test [] t e i = refl
 each-test (u ∷ us) t e zero = right t u (first-test (t && u) us e)
 each-test (u ∷ us) t e (suc i) = each-test us (t && u) e i
 
-module _ (s : List ℕ) (bytes : Bytes s) (fine : fieldsFine s ≡ true) where
+module _ (s : List ℕ) (bytes : Bytes s) (newest : isNewest s ≡ true) (fine : fieldsFine s ≡ true) where
   abbrev at : ℕ → ℕ
   at i = byteAt s i
 
@@ -49,7 +50,7 @@ module _ (s : List ℕ) (bytes : Bytes s) (fine : fieldsFine s ≡ true) where
   group = each-test group-row true fine
 
   abbrev head-test-row : List Bool
-  head-test-row = eqb (at 0) 78 ∷ eqb (at 1) 80 ∷ eqb (at 2) 83 ∷ eqb (at 3) 1 ∷ []
+  head-test-row = eqb (at 0) 78 ∷ eqb (at 1) 80 ∷ eqb (at 2) 83 ∷ []
 
   head-test : (i : ℕ) → getD head-test-row i true ≡ true
   head-test = each-test head-test-row true (group 0)
@@ -130,7 +131,7 @@ module _ (s : List ℕ) (bytes : Bytes s) (fine : fieldsFine s ≡ true) where
   head : headBytes (beamAt s) ≡ listing at 0 14
   head =
       simp
-      (low-at, high-at, eqb-true (at 0) 78 (head-test 0), eqb-true (at 1) 80 (head-test 1), eqb-true (at 2) 83 (head-test 2), eqb-true (at 3) 1 (head-test 3), flag-again (at 8) (early 0), flag-again (at 9) (early 1), flag-again (at 11) (early 2), flag-again (at 12) (early 3), flag-again (at 13) (early 4))
+      (low-at, high-at, eqb-true (at 0) 78 (head-test 0), eqb-true (at 1) 80 (head-test 1), eqb-true (at 2) 83 (head-test 2), eqb-true (at 3) 2 (right (eqb (length s) 309) (eqb (at 3) 2) newest), flag-again (at 8) (early 0), flag-again (at 9) (early 1), flag-again (at 11) (early 2), flag-again (at 12) (early 3), flag-again (at 13) (early 4))
 
   registers : registerBytes (registersAt s) ≡ listing at 14 42
   registers = simp (low-at, high-at)
@@ -171,11 +172,11 @@ module _ (s : List ℕ) (bytes : Bytes s) (fine : fieldsFine s ≡ true) where
       λ i.
       [] ++ row 75 (dma 0) i ++ row 87 (dma 1) i ++ row 99 (dma 2) i ++ row 111 (dma 3) i ++ row 123 (dma 4) i ++ row 135 (dma 5) i ++ row 147 (dma 6) i ++ row 159 (dma 7) i
 
-  pub chip-again : length s ≡ 308 → encoded (chipAt s) ≡ s
+  pub chip-again : encoded (chipAt s) ≡ s
   unfolding encoded
-  chip-again e =
-      let parts : encoded (chipAt s) ≡ listing at 0 308 = λ i. head i ++ registers i ++ masks i ++ sprites i ++ matrix i ++ rest i ++ clocks i ++ (place-again (at 307) i ∷ []) in
-      parts ∙ listed 0 s 308 e
+  chip-again =
+      let parts : encoded (chipAt s) ≡ listing at 0 309 = λ i. head i ++ registers i ++ masks i ++ sprites i ++ matrix i ++ rest i ++ clocks i ++ (place-again (at 307) i ∷ at 308 ∷ []) in
+      parts ∙ listed 0 s 309 (eqb-true (length s) 309 (left (eqb (length s) 309) (eqb (at 3) 2) newest))
 
   -- ---- the chip of a scene can be saved
 

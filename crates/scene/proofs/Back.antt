@@ -2,7 +2,7 @@
 use mathlib.Core.Path.{_≡_, refl, ap}
 use mathlib.Core.List.{List}
 use mathlib.Core.Bool.{true}
-use lib.ListN.{length, getD}
+use lib.ListN.{getD}
 use borrow.Author.Tests.{lt-ltb}
 use Rattle.sprites.specs.declared.Sprite.{Sprite}
 use Rattle.sprites.specs.Set.{each≔}
@@ -10,6 +10,7 @@ use Rattle.sprites.specs.Sprites.{spriteAt, none}
 use Rattle.rows.specs.Pending.{waits}
 use Rattle.chip.specs.declared.Chip.{Chip}
 use Rattle.scene.specs.Numbers.{flagAt}
+use Rattle.scene.specs.Versions.{isNewest}
 use Rattle.scene.specs.Decode.{beamAt, registersAt, irqAt, borderAt, spritesAt, pointersAt, wordsAt, spriteBytesAt, rowsAt, busAt, frameAt, penAt, matrixAt, waitsAt, sideAt, pictureAt, chipAt, fieldsFine}
 use Rattle.scene.specs.Encode.{encoded}
 use Rattle.scene.specs.Saved.{Saved}
@@ -105,6 +106,6 @@ module _ (c : Chip) (s : Saved c) where
   unfolding encoded
   fields-fine = simp (flag-fine, lt-ltb (c .picture .pen .mode) 8 (s .mode), lt-ltb (c .picture .pen .old) 8 (s .old), place-fine (c .side .pending .place) (s .place))
 
-  pub all-bytes : length (encoded c) ≡ 308
+  pub newest : isNewest (encoded c) ≡ true
   unfolding encoded
-  all-bytes = refl
+  newest = refl

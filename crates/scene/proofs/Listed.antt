@@ -1,9 +1,9 @@
 -- A list as its elements, one by one from a place. Assumes nothing.
-use Prim.Native.Nat.{ℕ, zero, suc}
+use Prim.Native.Nat.{ℕ, zero, suc, _≤_}
 use mathlib.Core.Path.{_≡_, refl, sym, ap, _∙_}
-use mathlib.Core.List.{List, [], _∷_}
-use native.Mathlib.Nat.{suc-inj, suc-ne-zero}
-use lib.ListN.{length, getD}
+use mathlib.Core.List.{List, [], _∷_, _++_, append-nil}
+use native.Mathlib.Omega.{arith}
+use lib.ListN.{length, getD, drop, drop-of-length-le}
 
 module _ {A : Type 0} where
   abbrev pub listing : (ℕ → A) → ℕ → ℕ → List A
@@ -14,8 +14,14 @@ module _ {A : Type 0} where
   later d x l at zero = refl
   later d x l at (suc n) = ap (λ (r : List A). getD l at d ∷ r) (later d x l (suc at) n)
 
+  -- the first n, and what lies behind them
+  pub front-listed : (d : A) (l : List A) (n : ℕ) → n ≤ length l → listing (λ (i : ℕ). getD l i d) 0 n ++ drop n l ≡ l
+  front-listed d l zero h = refl
+  front-listed d [] (suc n) h = absurd (omega arith)
+  front-listed d (x ∷ l) (suc n) h = ap (λ (r : List A). x ∷ r) (ap (λ (r : List A). r ++ drop n l) (later d x l 0 n) ∙ front-listed d l n (omega arith))
+
   pub listed : (d : A) (l : List A) (n : ℕ) → length l ≡ n → listing (λ (i : ℕ). getD l i d) 0 n ≡ l
-  listed d [] zero e = refl
-  listed d [] (suc n) e = absurd (suc-ne-zero n (sym e))
-  listed d (x ∷ l) zero e = absurd (suc-ne-zero (length l) e)
-  listed d (x ∷ l) (suc n) e = ap (λ (r : List A). x ∷ r) (later d x l 0 n ∙ listed d l n (suc-inj e))
+  listed d l n e =
+      sym (append-nil (listing (λ (i : ℕ). getD l i d) 0 n))
+      ∙ ap (λ (r : List A). listing (λ (i : ℕ). getD l i d) 0 n ++ r) (sym (drop-of-length-le l {i = n} (omega arith)))
+      ∙ front-listed d l n (omega arith)

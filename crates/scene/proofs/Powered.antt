@@ -1,4 +1,4 @@
--- The chip at power-up can be saved. Assumes nothing.
+-- The chip at power-up can be saved, of every kind. Assumes nothing.
 use Prim.Native.Nat.{ℕ, zero, suc, _<_}
 use mathlib.Core.Path.{refl}
 use lib.Dec.{lit<}
@@ -16,9 +16,9 @@ no-word zero k = lit< tt
 no-word (suc n) zero = lit< tt
 no-word (suc n) (suc k) = no-word n k
 
-pub powered-is-saved : Saved powered
+pub powered-is-saved : (kind : ℕ) → Saved (powered kind)
 unfolding powered freshSide freshPen allFresh Buses.fresh
-powered-is-saved =
+powered-is-saved kind =
     record {
       mode = lit< tt;
       old = lit< tt;

@@ -1,9 +1,8 @@
--- What 308 bytes hold, field by field in the order of FORMATS, Scene, and which bytes are a scene.
+-- What the 309 bytes of the newest version hold, field by field in the order of FORMATS, Scene, and which bytes are a scene.
 use Prim.Native.Nat.{ℕ, zero, suc, _+_, _*_}
 use mathlib.Core.Bool.{Bool, true, false, _&&_, _||_, cond}
 use mathlib.Core.List.{List, [], _∷_, _++_}
 use lib.Dec.{eqb, ltb}
-use lib.ListN.{length}
 use Rattle.registers.specs.declared.Irq.{Irq}
 use Rattle.registers.specs.declared.Registers.{Registers}
 use Rattle.timing.specs.declared.Beam.{Beam}
@@ -22,15 +21,17 @@ use Rattle.chip.specs.declared.Chip.{Chip}
 use Rattle.chip.specs.Chip.{powered}
 use Rattle.scene.specs.declared.Decoded.{Decoded}
 use Rattle.scene.specs.Numbers.{byteAt, wordAt, longAt, clockAt, flagAt, aecOf, pendingOf}
+use Rattle.scene.specs.Versions.{isNewest, renewed}
 
 abbrev pub eightAt : List ℕ → ℕ → List ℕ
 eightAt s i =
     byteAt s i ∷ byteAt s (i + 1) ∷ byteAt s (i + 2) ∷ byteAt s (i + 3) ∷ byteAt s (i + 4) ∷ byteAt s (i + 5) ∷ byteAt s (i + 6) ∷ byteAt s (i + 7) ∷ []
 
--- timing, from 4
+-- timing, from 4; 02 (iv): the kind, last
 abbrev pub beamAt : List ℕ → Beam
 beamAt s =
     record {
+      kind = byteAt s 308;
       cycle = wordAt s 4;
       raster = wordAt s 6;
       den = flagAt s 8;
@@ -191,10 +192,10 @@ pictureAt s =
 abbrev pub chipAt : List ℕ → Chip
 chipAt s = record { regs = registersAt s; side = sideAt s; picture = pictureAt s }
 
--- FORMATS, Scene: not a scene is another length, head or version; a flag above 1; a mode above 7; a pending place that is neither 255 nor 0 to 39
+-- FORMATS, Scene: not a scene is another head; a flag above 1; a mode above 7; a pending place that is neither 255 nor 0 to 39; a length or version that none has
 
 abbrev pub headFine : List ℕ → Bool
-headFine s = eqb (byteAt s 0) 78 && eqb (byteAt s 1) 80 && eqb (byteAt s 2) 83 && eqb (byteAt s 3) 1
+headFine s = eqb (byteAt s 0) 78 && eqb (byteAt s 1) 80 && eqb (byteAt s 2) 83
 
 abbrev pub isFlag : List ℕ → ℕ → Bool
 isFlag s i = ltb (byteAt s i) 2
@@ -218,10 +219,14 @@ abbrev pub fieldsFine : List ℕ → Bool
 fieldsFine s = headFine s && earlyFlags s && spriteFlags s && lateFlags s && rangesFine s
 
 abbrev pub noScene : Decoded
-noScene = record { scene = false; chip = powered }
+noScene = record { scene = false; chip = powered 0 }
 
 unfoldable pub decodedFields : List ℕ → Decoded
 decodedFields s = cond (fieldsFine s) (record { scene = true; chip = chipAt s }) noScene
 
+unfoldable pub decodedNewest : List ℕ → Decoded
+decodedNewest s = cond (isNewest s) (decodedFields s) noScene
+
+-- 02 (iv): every version is read
 unfoldable pub decoded : List ℕ → Decoded
-decoded s = cond (eqb (length s) 308) (decodedFields s) noScene
+decoded s = decodedNewest (renewed s)

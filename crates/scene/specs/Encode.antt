@@ -1,4 +1,4 @@
--- The 308 bytes of a chip, part by part in the order of FORMATS, Scene.
+-- The 309 bytes of a chip, part by part in the order of FORMATS, Scene: the newest version.
 use Prim.Native.Nat.{ℕ, zero, suc, _+_, _*_, _/_, _%_}
 use mathlib.Core.Path.{_≡_}
 use mathlib.Core.Bool.{Bool}
@@ -15,6 +15,7 @@ use Rattle.sprites.specs.declared.Sprites.{Sprites}
 use Rattle.sprites.specs.Sprites.{spriteAt}
 use Rattle.arbitration.specs.declared.Bus.{Bus}
 use Rattle.raster.specs.declared.Frame.{Frame}
+use Rattle.rows.specs.declared.Pending.{Pending}
 use Rattle.rows.specs.declared.Rows.{Rows}
 use Rattle.side.specs.declared.Side.{Side}
 use Rattle.picture.specs.declared.Pen.{Pen}
@@ -25,7 +26,7 @@ use Rattle.scene.specs.Numbers.{bits, bitBytes, countByte, flagByte, pla
 -- head: 'N' 'P' 'S' and the version; then timing
 abbrev pub headBytes : Beam → List ℕ
 headBytes b =
-    78 ∷ 80 ∷ 83 ∷ 1
+    78 ∷ 80 ∷ 83 ∷ 2
     ∷ lowByte (b .cycle) ∷ highByte (b .cycle) ∷ lowByte (b .raster) ∷ highByte (b .raster)
     ∷ flagByte (b .den) ∷ flagByte (b .rsel) ∷ b .yscroll ∷ flagByte (b .bad) ∷ flagByte (b .rising) ∷ flagByte (b .ba) ∷ []
 
@@ -87,6 +88,10 @@ clockBytes z = bitBytes (bits z)
 abbrev pub clocksBytes : Bus → ℤ → List ℕ
 clocksBytes b forced = clockBytes (b .fall) ++ clockBytes (b .rise) ++ clockBytes forced ++ clockBytes (b .clock)
 
+-- pending place; 02 (iv): the kind
+abbrev pub tailBytes : Pending → ℕ → List ℕ
+tailBytes place kind = placeByte place ∷ kind ∷ []
+
 unfoldable pub encoded : Chip → List ℕ
 encoded c =
     headBytes (c .side .beam)
@@ -96,7 +101,7 @@ encoded c =
     ++ entryBytes (c .picture .matrix) 40
     ++ restOf (c .side) (c .picture .pen)
     ++ clocksBytes (c .side .bus) (c .picture .pen .forced)
-    ++ (placeByte (c .side .pending .place) ∷ [])
+    ++ tailBytes (c .side .pending .place) (c .side .beam .kind)
 
 -- How a part is written: it stands from `at` to `end` behind what was there, and the whole is as long as before. What lies behind `end` is left open.
 pub record Put (before after : List ℕ) (at end : ℕ) (part : List ℕ) : Type 0 where

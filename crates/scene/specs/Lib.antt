@@ -1,4 +1,5 @@
 pub mod Numbers
+pub mod Versions
 pub mod Encode
 pub mod Decode
 pub mod Saved

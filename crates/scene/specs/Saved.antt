@@ -10,7 +10,7 @@ use Rattle.chip.specs.declared.Chip.{Chip}
 use Rattle.scene.specs.Numbers.{byteAt}
 
 -- Both modes are below 8 and the pending place is on the line. The rest holds of every chip that a program has, by its types: its arrays have their lengths,
--- a sprite's word fits 32 bits, the AEC counter 8 and a clock 64. (The other numbers come back whatever they are.)
+-- a sprite's word fits 32 bits, the AEC counter 8 and a clock 64. (The other numbers come back whatever they are, the kind too.)
 pub record Saved (c : Chip) : Type 0 where
   pub mode : c .picture .pen .mode < 8
   pub old : c .picture .pen .old < 8

@@ -1,4 +1,4 @@
-// A saved chip: its 308 bytes, and the chip that 308 bytes hold. The format is `Scene, version 1`.
+// A saved chip: its 309 bytes, and the chip that bytes hold. The format is `Scene`: version 2 is written, and version 1 is read too.
 // Every field has a fixed place, numbers lie low byte first, and a flag is 0 or 1.
 ghost use mathlib.Core.Path.{_≡_};
 ghost use mathlib.Core.List.{_∷_, []};
@@ -6,8 +6,9 @@ ghost use Prim.Native.Nat.{_+_, _*_, _/_, _%_, _≤_, _<_};
 ghost use lib.ListN.{length};
 ghost use Rattle.laws.specs.Bytes.{lowByte, highByte};
 ghost use Rattle.scene.specs.Numbers.{bits, clockOf, countByte, aecOf, placeByte, pendingOf, wordAt, longAt, clockAt};
-ghost use Rattle.scene.specs.Decode.{eightAt, beamAt, registersAt, irqAt, borderAt, spriteFrom, spritesAt, pointersAt, wordsAt, spriteBytesAt, matrixAt, rowsAt, busAt, frameAt, penAt, waitsAt, sideAt, pictureAt, chipAt, headFine, earlyFlags, spriteFlags, lateFlags, rangesFine, fieldsFine, noScene, decodedFields, decoded};
-ghost use Rattle.scene.specs.Encode.{headBytes, registerBytes, maskBytes, spriteBytes, spriteRow, spriteRows, entryBytes, restOf, clockBytes, clocksBytes, restBytes, encoded, Put};
+ghost use Rattle.scene.specs.Versions.{isVersion, grown};
+ghost use Rattle.scene.specs.Decode.{eightAt, beamAt, registersAt, irqAt, borderAt, spriteFrom, spritesAt, pointersAt, wordsAt, spriteBytesAt, matrixAt, rowsAt, busAt, frameAt, penAt, waitsAt, sideAt, pictureAt, chipAt, headFine, earlyFlags, spriteFlags, lateFlags, rangesFine, fieldsFine, noScene, decodedFields, decodedNewest, decoded};
+ghost use Rattle.scene.specs.Encode.{headBytes, registerBytes, maskBytes, spriteBytes, spriteRow, spriteRows, entryBytes, restOf, clockBytes, clocksBytes, restBytes, tailBytes, encoded, Put};
 use arbitration::Bus;
 use border::Border;
 use chip::Chip;
@@ -141,10 +142,11 @@ fn eight_at(bytes: &[u8], at: usize) -> [u8; 8]
 }
 
 fn beam_at(bytes: &[u8]) -> Beam
-    requires { ⌜ length (now bytes) ≡ 308 ⌝ }
+    requires { ⌜ length (now bytes) ≡ 309 ⌝ }
     ensures { λ r. ⌜ r ≡ beamAt (now (bytes .entry)) ⌝ }
 {
     Beam {
+        kind: bytes[308],
         cycle: word_at(bytes, 4),
         raster: word_at(bytes, 6),
         den: bytes[8] == 1,
@@ -158,7 +160,7 @@ fn beam_at(bytes: &[u8]) -> Beam
 }
 
 fn registers_at(bytes: &[u8]) -> Registers
-    requires { ⌜ length (now bytes) ≡ 308 ⌝ }
+    requires { ⌜ length (now bytes) ≡ 309 ⌝ }
     ensures { λ r. ⌜ r ≡ registersAt (now (bytes .entry)) ⌝ }
 {
     Registers {
@@ -183,7 +185,7 @@ fn registers_at(bytes: &[u8]) -> Registers
 }
 
 fn irq_at(bytes: &[u8]) -> Irq
-    requires { ⌜ length (now bytes) ≡ 308 ⌝ }
+    requires { ⌜ length (now bytes) ≡ 309 ⌝ }
     ensures { λ r. ⌜ r ≡ irqAt (now (bytes .entry)) ⌝ }
 {
     Irq {
@@ -194,7 +196,7 @@ fn irq_at(bytes: &[u8]) -> Irq
 }
 
 fn border_at(bytes: &[u8]) -> Border
-    requires { ⌜ length (now bytes) ≡ 308 ⌝ }
+    requires { ⌜ length (now bytes) ≡ 309 ⌝ }
     ensures { λ r. ⌜ r ≡ borderAt (now (bytes .entry)) ⌝ }
 {
     Border {
@@ -222,7 +224,7 @@ fn sprite_at(bytes: &[u8], at: usize) -> Sprite
 }
 
 fn sprites_at(bytes: &[u8]) -> Sprites
-    requires { ⌜ length (now bytes) ≡ 308 ⌝ }
+    requires { ⌜ length (now bytes) ≡ 309 ⌝ }
     ensures { λ r. ⌜ r ≡ spritesAt (now (bytes .entry)) ⌝ }
 {
     Sprites {
@@ -246,7 +248,7 @@ fn sprites_at(bytes: &[u8]) -> Sprites
 }
 
 fn pointers_at(bytes: &[u8]) -> [u8; 8]
-    requires { ⌜ length (now bytes) ≡ 308 ⌝ }
+    requires { ⌜ length (now bytes) ≡ 309 ⌝ }
     ensures { λ r. ⌜ r ≡ pointersAt (now (bytes .entry)) ⌝ }
 {
     [
@@ -262,7 +264,7 @@ fn pointers_at(bytes: &[u8]) -> [u8; 8]
 }
 
 fn words_at(bytes: &[u8]) -> [u32; 8]
-    requires { ⌜ length (now bytes) ≡ 308 ⌝ }
+    requires { ⌜ length (now bytes) ≡ 309 ⌝ }
     ensures { λ r. ⌜ r ≡ wordsAt (now (bytes .entry)) ⌝ }
 {
     [
@@ -278,7 +280,7 @@ fn words_at(bytes: &[u8]) -> [u32; 8]
 }
 
 fn sprite_bytes_at(bytes: &[u8]) -> [u8; 24]
-    requires { ⌜ length (now bytes) ≡ 308 ⌝ }
+    requires { ⌜ length (now bytes) ≡ 309 ⌝ }
     ensures { λ r. ⌜ r ≡ spriteBytesAt (now (bytes .entry)) ⌝ }
 {
     [
@@ -310,7 +312,7 @@ fn sprite_bytes_at(bytes: &[u8]) -> [u8; 24]
 }
 
 fn matrix_at(bytes: &[u8]) -> [u16; 40]
-    requires { ⌜ length (now bytes) ≡ 308 ⌝ }
+    requires { ⌜ length (now bytes) ≡ 309 ⌝ }
     ensures { λ r. ⌜ r ≡ matrixAt (now (bytes .entry)) ⌝ }
 {
     let mut matrix = [0u16; 40];
@@ -323,7 +325,7 @@ fn matrix_at(bytes: &[u8]) -> [u16; 40]
 }
 
 fn rows_at(bytes: &[u8]) -> Rows
-    requires { ⌜ length (now bytes) ≡ 308 ⌝ }
+    requires { ⌜ length (now bytes) ≡ 309 ⌝ }
     ensures { λ r. ⌜ r ≡ rowsAt (now (bytes .entry)) ⌝ }
 {
     Rows {
@@ -338,7 +340,7 @@ fn rows_at(bytes: &[u8]) -> Rows
 }
 
 fn bus_at(bytes: &[u8]) -> Bus
-    requires { ⌜ length (now bytes) ≡ 308 ⌝ }
+    requires { ⌜ length (now bytes) ≡ 309 ⌝ }
     ensures { λ r. ⌜ r ≡ busAt (now (bytes .entry)) ⌝ }
 {
     Bus {
@@ -352,7 +354,7 @@ fn bus_at(bytes: &[u8]) -> Bus
 }
 
 fn frame_at(bytes: &[u8]) -> Frame
-    requires { ⌜ length (now bytes) ≡ 308 ⌝ }
+    requires { ⌜ length (now bytes) ≡ 309 ⌝ }
     ensures { λ r. ⌜ r ≡ frameAt (now (bytes .entry)) ⌝ }
 {
     Frame {
@@ -362,7 +364,7 @@ fn frame_at(bytes: &[u8]) -> Frame
 }
 
 fn pen_at(bytes: &[u8]) -> Pen
-    requires { ⌜ length (now bytes) ≡ 308 ⌝ }
+    requires { ⌜ length (now bytes) ≡ 309 ⌝ }
     ensures { λ r. ⌜ r ≡ penAt (now (bytes .entry)) ⌝ }
 {
     Pen {
@@ -377,7 +379,7 @@ fn pen_at(bytes: &[u8]) -> Pen
 }
 
 fn waits_at(bytes: &[u8]) -> Waits
-    requires { ⌜ length (now bytes) ≡ 308 ⌝ }
+    requires { ⌜ length (now bytes) ≡ 309 ⌝ }
     ensures { λ r. ⌜ r ≡ waitsAt (now (bytes .entry)) ⌝ }
 {
     Waits {
@@ -386,7 +388,7 @@ fn waits_at(bytes: &[u8]) -> Waits
 }
 
 fn side_at(bytes: &[u8]) -> Side
-    requires { ⌜ length (now bytes) ≡ 308 ⌝ }
+    requires { ⌜ length (now bytes) ≡ 309 ⌝ }
     ensures { λ r. ⌜ r ≡ sideAt (now (bytes .entry)) ⌝ }
 {
     Side {
@@ -403,7 +405,7 @@ fn side_at(bytes: &[u8]) -> Side
 }
 
 fn picture_at(bytes: &[u8]) -> Picture
-    requires { ⌜ length (now bytes) ≡ 308 ⌝ }
+    requires { ⌜ length (now bytes) ≡ 309 ⌝ }
     ensures { λ r. ⌜ r ≡ pictureAt (now (bytes .entry)) ⌝ }
 {
     Picture {
@@ -418,14 +420,14 @@ fn picture_at(bytes: &[u8]) -> Picture
 // ---- what is a scene
 
 fn head_fine(bytes: &[u8]) -> bool
-    requires { ⌜ length (now bytes) ≡ 308 ⌝ }
+    requires { ⌜ length (now bytes) ≡ 309 ⌝ }
     ensures { λ r. ⌜ r ≡ headFine (now (bytes .entry)) ⌝ }
 {
-    (bytes[0] == b'N') & (bytes[1] == b'P') & (bytes[2] == b'S') & (bytes[3] == 1)
+    (bytes[0] == b'N') & (bytes[1] == b'P') & (bytes[2] == b'S')
 }
 
 fn early_flags(bytes: &[u8]) -> bool
-    requires { ⌜ length (now bytes) ≡ 308 ⌝ }
+    requires { ⌜ length (now bytes) ≡ 309 ⌝ }
     ensures { λ r. ⌜ r ≡ earlyFlags (now (bytes .entry)) ⌝ }
 {
     (bytes[8] < 2)
@@ -441,7 +443,7 @@ fn early_flags(bytes: &[u8]) -> bool
 }
 
 fn sprite_flags(bytes: &[u8]) -> bool
-    requires { ⌜ length (now bytes) ≡ 308 ⌝ }
+    requires { ⌜ length (now bytes) ≡ 309 ⌝ }
     ensures { λ r. ⌜ r ≡ spriteFlags (now (bytes .entry)) ⌝ }
 {
     (bytes[79] < 2)
@@ -455,7 +457,7 @@ fn sprite_flags(bytes: &[u8]) -> bool
 }
 
 fn late_flags(bytes: &[u8]) -> bool
-    requires { ⌜ length (now bytes) ≡ 308 ⌝ }
+    requires { ⌜ length (now bytes) ≡ 309 ⌝ }
     ensures { λ r. ⌜ r ≡ lateFlags (now (bytes .entry)) ⌝ }
 {
     (bytes[257] < 2)
@@ -472,14 +474,14 @@ fn late_flags(bytes: &[u8]) -> bool
 
 // The two modes and the pending place.
 fn ranges_fine(bytes: &[u8]) -> bool
-    requires { ⌜ length (now bytes) ≡ 308 ⌝ }
+    requires { ⌜ length (now bytes) ≡ 309 ⌝ }
     ensures { λ r. ⌜ r ≡ rangesFine (now (bytes .entry)) ⌝ }
 {
     (bytes[263] < 8) & (bytes[264] < 8) & ((bytes[307] == 255) | (bytes[307] < 40))
 }
 
 fn fields_fine(bytes: &[u8]) -> bool
-    requires { ⌜ length (now bytes) ≡ 308 ⌝ }
+    requires { ⌜ length (now bytes) ≡ 309 ⌝ }
     ensures { λ r. ⌜ r ≡ fieldsFine (now (bytes .entry)) ⌝ }
 {
     let head = head_fine(bytes);
@@ -492,7 +494,7 @@ fn fields_fine(bytes: &[u8]) -> bool
 
 // The chip that a scene holds.
 fn chip_at(bytes: &[u8]) -> Chip
-    requires { ⌜ length (now bytes) ≡ 308 ⌝ }
+    requires { ⌜ length (now bytes) ≡ 309 ⌝ }
     ensures { λ r. ⌜ r ≡ chipAt (now (bytes .entry)) ⌝ }
 {
     Chip {
@@ -505,7 +507,7 @@ fn chip_at(bytes: &[u8]) -> Chip
 fn no_scene() -> Decoded
     ensures { λ r. ⌜ r ≡ noScene ⌝ }
 {
-    let fresh = chip::power_up();
+    let fresh = chip::power_up(0);
     Decoded {
         scene: false,
         chip: fresh,
@@ -513,7 +515,7 @@ fn no_scene() -> Decoded
 }
 
 fn decode_fields(bytes: &[u8]) -> Decoded
-    requires { ⌜ length (now bytes) ≡ 308 ⌝ }
+    requires { ⌜ length (now bytes) ≡ 309 ⌝ }
     ensures { λ r. ⌜ r ≡ decodedFields (now (bytes .entry)) ⌝ }
 {
     let fine = fields_fine(bytes);
@@ -527,13 +529,50 @@ fn decode_fields(bytes: &[u8]) -> Decoded
     no_scene()
 }
 
+// ---- versions
+
+fn is_version(bytes: &[u8], version: u8, size: usize) -> bool
+    requires { ⌜ 3 < size ⌝ }
+    ensures { λ r. ⌜ r ≡ isVersion version size (now (bytes .entry)) ⌝ }
+{
+    if bytes.len() != size {
+        return false;
+    }
+    bytes[3] == version
+}
+
+// The bytes of an older scene as those of the next version, which has one more.
+fn grow(bytes: &[u8], out: &mut [u8], version: u8, more: u8)
+    requires { ⌜ 3 < length (now bytes) ⌝ ∗ ⌜ length (now out) ≡ length (now bytes) + 1 ⌝ }
+    ensures { λ r. ⌜ now (out .exit) ≡ grown version more (now (bytes .entry)) ⌝ }
+{
+    let last = [more];
+    put(out, 0, bytes);
+    put(out, bytes.len(), &last);
+    out[3] = version;
+}
+
+fn decode_newest(bytes: &[u8]) -> Decoded
+    ensures { λ r. ⌜ r ≡ decodedNewest (now (bytes .entry)) ⌝ }
+{
+    let newest = is_version(bytes, 2, 309);
+    if newest {
+        return decode_fields(bytes);
+    }
+    no_scene()
+}
+
+// Version 1 has no kind: it is the 6569's, 0.
 pub fn decode(bytes: &[u8]) -> Decoded
     ensures { λ r. ⌜ r ≡ decoded (now (bytes .entry)) ⌝ }
 {
-    if bytes.len() != 308 {
-        return no_scene();
+    let first = is_version(bytes, 1, 308);
+    if first {
+        let mut second = [0u8; 309];
+        grow(bytes, &mut second, 2, 0);
+        return decode_newest(&second);
     }
-    decode_fields(bytes)
+    decode_newest(bytes)
 }
 
 // ---- fields to bytes
@@ -545,7 +584,7 @@ fn head_bytes(b: Beam) -> [u8; 14]
         b'N',
         b'P',
         b'S',
-        1,
+        2,
         (b.cycle % 256) as u8,
         (b.cycle / 256) as u8,
         (b.raster % 256) as u8,
@@ -740,7 +779,7 @@ fn sprite_row(s: Sprites, p: Picture, k: usize) -> [u8; 12]
 }
 
 fn put_sprite(out: &mut [u8], k: usize, s: Sprites, p: Picture)
-    requires { ⌜ k < 8 ⌝ ∗ ⌜ length (now out) ≡ 308 ⌝ }
+    requires { ⌜ k < 8 ⌝ ∗ ⌜ length (now out) ≡ 309 ⌝ }
     ensures { λ r. ⌜ Put (now (out .entry)) (now (out .exit)) (75 + 12 * k) (75 + 12 * k + 12) (spriteRow s p k) ⌝ }
 {
     let row = sprite_row(s, p, k);
@@ -748,7 +787,7 @@ fn put_sprite(out: &mut [u8], k: usize, s: Sprites, p: Picture)
 }
 
 fn put_sprites(out: &mut [u8], s: Sprites, p: Picture)
-    requires { ⌜ length (now out) ≡ 308 ⌝ }
+    requires { ⌜ length (now out) ≡ 309 ⌝ }
     ensures { λ r. ⌜ Put (now (out .entry)) (now (out .exit)) 75 171 (spriteRows s p 8) ⌝ }
 {
     let mut k = 0usize;
@@ -767,7 +806,7 @@ fn put_word(out: &mut [u8], at: usize, x: u16)
 }
 
 fn put_matrix(out: &mut [u8], matrix: [u16; 40])
-    requires { ⌜ length (now out) ≡ 308 ⌝ }
+    requires { ⌜ length (now out) ≡ 309 ⌝ }
     ensures { λ r. ⌜ Put (now (out .entry)) (now (out .exit)) 171 251 (entryBytes matrix 40) ⌝ }
 {
     let mut k = 0usize;
@@ -786,7 +825,7 @@ fn put_clock(out: &mut [u8], at: usize, x: i64)
 }
 
 fn put_clocks(out: &mut [u8], bus: Bus, forced: i64)
-    requires { ⌜ length (now out) ≡ 308 ⌝ }
+    requires { ⌜ length (now out) ≡ 309 ⌝ }
     ensures { λ r. ⌜ Put (now (out .entry)) (now (out .exit)) 275 307 (clocksBytes bus forced) ⌝ }
 {
     put_clock(out, 275, bus.fall);
@@ -796,7 +835,7 @@ fn put_clocks(out: &mut [u8], bus: Bus, forced: i64)
 }
 
 fn put_head(out: &mut [u8], beam: Beam)
-    requires { ⌜ length (now out) ≡ 308 ⌝ }
+    requires { ⌜ length (now out) ≡ 309 ⌝ }
     ensures { λ r. ⌜ Put (now (out .entry)) (now (out .exit)) 0 14 (headBytes beam) ⌝ }
 {
     let part = head_bytes(beam);
@@ -804,7 +843,7 @@ fn put_head(out: &mut [u8], beam: Beam)
 }
 
 fn put_registers(out: &mut [u8], regs: Registers)
-    requires { ⌜ length (now out) ≡ 308 ⌝ }
+    requires { ⌜ length (now out) ≡ 309 ⌝ }
     ensures { λ r. ⌜ Put (now (out .entry)) (now (out .exit)) 14 56 (registerBytes regs) ⌝ }
 {
     let part = register_bytes(regs);
@@ -812,7 +851,7 @@ fn put_registers(out: &mut [u8], regs: Registers)
 }
 
 fn put_masks(out: &mut [u8], irq: Irq, border: Border, sprites: Sprites)
-    requires { ⌜ length (now out) ≡ 308 ⌝ }
+    requires { ⌜ length (now out) ≡ 309 ⌝ }
     ensures { λ r. ⌜ Put (now (out .entry)) (now (out .exit)) 56 75 (maskBytes irq border sprites) ⌝ }
 {
     let part = mask_bytes(irq, border, sprites);
@@ -820,7 +859,7 @@ fn put_masks(out: &mut [u8], irq: Irq, border: Border, sprites: Sprites)
 }
 
 fn put_rest(out: &mut [u8], s: Side, pen: Pen)
-    requires { ⌜ length (now out) ≡ 308 ⌝ }
+    requires { ⌜ length (now out) ≡ 309 ⌝ }
     ensures { λ r. ⌜ Put (now (out .entry)) (now (out .exit)) 251 275 (restOf s pen) ⌝ }
 {
     let beam = s.beam;
@@ -832,18 +871,18 @@ fn put_rest(out: &mut [u8], s: Side, pen: Pen)
     put(out, 251, &part);
 }
 
-fn put_place(out: &mut [u8], pending: Pending)
-    requires { ⌜ length (now out) ≡ 308 ⌝ }
-    ensures { λ r. ⌜ Put (now (out .entry)) (now (out .exit)) 307 308 (placeByte pending ∷ []) ⌝ }
+fn put_tail(out: &mut [u8], pending: Pending, kind: u8)
+    requires { ⌜ length (now out) ≡ 309 ⌝ }
+    ensures { λ r. ⌜ Put (now (out .entry)) (now (out .exit)) 307 309 (tailBytes pending kind) ⌝ }
 {
-    let part = [place_byte(pending)];
+    let part = [place_byte(pending), kind];
     put(out, 307, &part);
 }
 
 fn fill(chip: Chip, out: &mut [u8])
-    requires { ⌜ length (now out) ≡ 308 ⌝ }
+    requires { ⌜ length (now out) ≡ 309 ⌝ }
     ensures { λ r. ⌜ now (out .exit) ≡ encoded chip ⌝ }
-    ensures { λ r. ⌜ length (now (out .exit)) ≡ 308 ⌝ }
+    ensures { λ r. ⌜ length (now (out .exit)) ≡ 309 ⌝ }
 {
     let regs = chip.regs;
     let side = chip.side;
@@ -864,13 +903,13 @@ fn fill(chip: Chip, out: &mut [u8])
     put_matrix(out, matrix);
     put_rest(out, side, pen);
     put_clocks(out, bus, pen.forced);
-    put_place(out, pending);
+    put_tail(out, pending, beam.kind);
 }
 
 // The same over an array, whose length its type tells. The second promise follows from the first, and spares a caller who hands the bytes on its proof.
-pub fn encode(chip: Chip, out: &mut [u8; 308])
+pub fn encode(chip: Chip, out: &mut [u8; 309])
     ensures { λ r. ⌜ now (out .exit) ≡ encoded chip ⌝ }
-    ensures { λ r. ⌜ length (now (out .exit)) ≡ 308 ⌝ }
+    ensures { λ r. ⌜ length (now (out .exit)) ≡ 309 ⌝ }
 {
     fill(chip, out);
 }

@@ -7,22 +7,22 @@ use borrow.Author.Tests.{ne-eqb}
 use lib.Dec.{T, leb, leb→le}
 use Rattle.laws.proofs.Choice.{either}
 use Rattle.laws.proofs.Below as Below
-use Rattle.schedule.specs.Kind.{lastCycle}
+use Rattle.schedule.specs.Kind.{Kind, the6569, the6567R8, lastCycle}
 use Rattle.schedule.specs.Diagram.{happens, firstOf, lineBegins, vcLoad, characterAccess, vmliCounts, graphicsAccess, slotSprite, slotBelow, onLine, during, diagram, pointerOf, dataOf}
 
-below : (n c : ℕ) → slotBelow n c ≤ n
-below zero c = omega arith
-below (suc n) c =
-    either (λ (k : ℕ). k ≤ suc n) (during (diagram (pointerOf n)) c || during (diagram (dataOf n)) c) (omega arith) (omega (arith, below n c))
+below : (k : Kind) (n c : ℕ) → slotBelow k n c ≤ n
+below k zero c = omega arith
+below k (suc n) c =
+    either (λ (m : ℕ). m ≤ suc n) (during (diagram (pointerOf k n)) c || during (diagram (dataOf k n)) c) (omega arith) (omega (arith, below k n c))
 
-below-one : (n c : ℕ) → slotBelow (suc n) c ≤ n
-below-one n c =
-    either (λ (k : ℕ). k ≤ n) (during (diagram (pointerOf n)) c || during (diagram (dataOf n)) c) (omega arith) (omega (arith, below n c))
+below-one : (k : Kind) (n c : ℕ) → slotBelow k (suc n) c ≤ n
+below-one k n c =
+    either (λ (m : ℕ). m ≤ n) (during (diagram (pointerOf k n)) c || during (diagram (dataOf k n)) c) (omega arith) (omega (arith, below k n c))
 
 -- a slot is one of eight sprites'
-pub slot-small : (c : ℕ) → slotSprite c < 8
+pub slot-small : (k : Kind) (c : ℕ) → slotSprite k c < 8
 unfolding slotSprite
-slot-small c = either (λ (k : ℕ). k < 8) (onLine c) (omega (arith, below-one 7 c)) (omega arith)
+slot-small k c = either (λ (m : ℕ). m < 8) (onLine k c) (omega (arith, below-one k 7 c)) (omega arith)
 
 -- a line begins in no cycle after its first
 pub not-begun : (c : ℕ) → 1 ≤ c → happens lineBegins (c + 1) ≡ false
@@ -30,9 +30,9 @@ unfolding happens
 not-begun c h = ne-eqb (c + 1) 1 (λ (e : c + 1 ≡ 1). omega arith)
 
 -- no graphics access in the cycle that loads VC and clears VMLI
-pub load-alone : (c : ℕ) → c ≤ lastCycle → happens vcLoad c ≡ true → happens graphicsAccess c ≡ false
+pub load-alone : (c : ℕ) → c < 66 → happens vcLoad c ≡ true → happens graphicsAccess c ≡ false
 unfolding happens
-load-alone c h e = rw e at (Below.same-test (λ k. happens vcLoad k && happens graphicsAccess k) (λ k. false) 64 tt c (omega arith))
+load-alone c h e = rw e at (Below.same-test (λ k. happens vcLoad k && happens graphicsAccess k) (λ k. false) 66 tt c h)
 
 -- how far VMLI may have counted after cycle c
 abbrev pub room : ℕ → ℕ
@@ -47,12 +47,13 @@ unless true b t e = absurd (subst T e t)
 unless false b t e = t
 
 -- but in the cycle that clears VMLI
-pub room-next : (c : ℕ) → c < lastCycle → happens vcLoad (c + 1) ≡ false → room c + cond (happens graphicsAccess (c + 1)) 1 0 ≤ room (c + 1)
+pub room-next : (c : ℕ) → c < 65 → happens vcLoad (c + 1) ≡ false → room c + cond (happens graphicsAccess (c + 1)) 1 0 ≤ room (c + 1)
 unfolding happens
 room-next c h e =
-    leb→le _ _ (unless (happens vcLoad (c + 1)) (within c (c + 1)) (Below.below (λ k. happens vcLoad (k + 1) || within k (k + 1)) 63 tt c h) e)
+    leb→le _ _ (unless (happens vcLoad (c + 1)) (within c (c + 1)) (Below.below (λ k. happens vcLoad (k + 1) || within k (k + 1)) 65 tt c h) e)
 
 -- and from the last cycle to the first
-pub room-wraps : room lastCycle + cond (happens graphicsAccess 1) 1 0 ≤ room 1
+pub room-wraps : (k : Kind) → room (lastCycle k) + cond (happens graphicsAccess 1) 1 0 ≤ room 1
 unfolding happens
-room-wraps = omega arith
+room-wraps the6569 = omega arith
+room-wraps the6567R8 = omega arith

@@ -1,16 +1,53 @@
-// The schedule of a line: when each event happens, which sprites ask for the bus, and how many have DMA.
+// The schedule of a line: what the kind of chip decides, when each event happens, which sprites ask for the bus, and how many have DMA.
 ghost use mathlib.Core.Path.{_≡_};
 ghost use mathlib.Core.Bool.{Bool};
-ghost use Prim.Native.Nat.{_+_, _-_, _<_};
-ghost use Rattle.schedule.specs.Kind.{firstPointer, wrapped};
-ghost use Rattle.schedule.specs.Diagram.{Event, lineBegins, frameEnds, matrixRequest, vcLoad, accessChosen, characterAccess, vmliCounts, graphicsAccess, lateIdle, accessEnds, graphicsCleared, rowEnds, crunch, mcbaseStep, firstPhase, secondPhase, mcLoad, mainRemembered, left40, left38, right38, right40, lineEnds, pointerOf, happens, pointerTime, dataTime, slotSprite, slotAfterBus};
+ghost use Rattle.schedule.specs.Kind.{known, kindOf, lastCycle, lastLine, firstPointer};
+ghost use Rattle.schedule.specs.Diagram.{Event, lineBegins, frameEnds, matrixRequest, vcLoad, accessChosen, characterAccess, vmliCounts, graphicsAccess, lateIdle, accessEnds, graphicsCleared, rowEnds, crunch, mcbaseStep, firstPhase, secondPhase, mcLoad, mainRemembered, left40, left38, right38, right40, lineEnds, happens, slotAfterBus};
 ghost use Rattle.schedule.specs.Requests.{maskAt, spritesIn};
-ghost use Rattle.schedule.specs.Machinery.Stretches.{isLater, isPast, isEarly, isBetween, isCalm, isStill};
+ghost use Rattle.schedule.specs.Machinery.Places.{placeOf, askingAt, pointingAt, fetchingAt, spriteIn, isCalm};
+ghost use Rattle.schedule.specs.Machinery.Stretches.{isLater, isPast, isEarly, isBetween, isStill, beforeGraphics};
 
-// Bauer 3.4, of the 6569: the cycles of a line are numbered from 1, the lines of a frame from 0.
-pub const LAST_CYCLE: u16 = 63;
+// ---- the kinds of chip
 
-pub const LAST_LINE: u16 = 311;
+pub const KIND_6569: u8 = 0;
+
+pub const KIND_6567R8: u8 = 1;
+
+pub fn is_known(kind: u8) -> bool
+    ensures { λ r. ⌜ r ≡ known kind ⌝ }
+{
+    kind <= KIND_6567R8
+}
+
+// The cycles of a line are numbered from 1.
+pub fn last_cycle(kind: u8) -> u16
+    ensures { λ r. ⌜ r ≡ lastCycle (kindOf kind) ⌝ }
+{
+    if kind == KIND_6567R8 {
+        return 65;
+    }
+    63
+}
+
+// The lines of a frame are numbered from 0.
+pub fn last_line(kind: u8) -> u16
+    ensures { λ r. ⌜ r ≡ lastLine (kindOf kind) ⌝ }
+{
+    if kind == KIND_6567R8 {
+        return 262;
+    }
+    311
+}
+
+// Sprite 0's pointer slot: the other sprites' follow it, one every second cycle.
+fn first_pointer(kind: u8) -> u16
+    ensures { λ r. ⌜ r ≡ firstPointer (kindOf kind) ⌝ }
+{
+    if kind == KIND_6567R8 {
+        return 59;
+    }
+    58
+}
 
 // The first character access, from which VMLI's limit counts.
 pub const FIRST_CHARACTER: u16 = 15;
@@ -20,16 +57,13 @@ pub const COUNTED_FROM: u16 = 18;
 
 pub const COUNTED_LAST: u16 = 52;
 
-// Sprite 0's pointer slot: the other sprites' follow it, one every second cycle.
-const FIRST_POINTER: u16 = 58;
+// ---- places: the cycles since sprite 0 began to ask, which the two kinds have alike
 
 // A sprite asks for the bus so many cycles before its pointer.
 const WARNING: u16 = 3;
 
-// Sprite 0's first request; in the next line, sprite 7's data slot.
-const FIRST_REQUEST: u16 = FIRST_POINTER - WARNING;
-
-const LAST_DATA: u16 = FIRST_POINTER + 2 * 7 + 1 - LAST_CYCLE;
+// The places at which some sprite asks; from WARNING on some sprite has a slot.
+const PLACES: u16 = WARNING + 2 * 8;
 
 // So many sprites ask at once: one begins every second cycle, and goes on for WARNING + 2, the pointer and the data slot among them.
 const AT_ONCE: u16 = (WARNING + 3) / 2;
@@ -38,31 +72,74 @@ const ALL_OF_THEM: u16 = (1 << AT_ONCE) - 1;
 
 const NEWEST: u16 = 1 << (AT_ONCE - 1);
 
-// The sprites that ask, t cycles after sprite 0 begins to. They move up by one every second cycle; in between the oldest is over.
-fn asking(t: u16) -> u8
-    requires { ⌜ t < 19 ⌝ }
-    ensures { λ r. ⌜ r ≡ maskAt (wrapped (firstPointer - 3 + t)) ⌝ }
+// A line goes round, so the cycles before sprite 0's first request come after the last one.
+pub fn place(kind: u8, cycle: u16) -> u16
+    ensures { λ r. ⌜ r ≡ placeOf (kindOf kind) cycle ⌝ }
 {
-    (((ALL_OF_THEM - t % 2) << (t / 2)) / NEWEST % 256) as u8
+    let first = first_pointer(kind) - WARNING;
+    if first <= cycle {
+        return cycle - first;
+    }
+    cycle + last_cycle(kind) - first
 }
 
+// The sprites that ask at a place. They move up by one every second cycle; in between the oldest is over.
+pub fn asking(place: u16) -> u8
+    ensures { λ r. ⌜ r ≡ askingAt place ⌝ }
+{
+    if PLACES <= place {
+        return 0;
+    }
+    (((ALL_OF_THEM - place % 2) << (place / 2)) / NEWEST % 256) as u8
+}
+
+// Some sprite's pointer slot is at this place.
+pub fn pointing(place: u16) -> bool
+    ensures { λ r. ⌜ r ≡ pointingAt place ⌝ }
+{
+    (WARNING <= place) & (place < PLACES) & (place % 2 == 1)
+}
+
+// Some sprite's data slot is at this place: the one after each pointer slot.
+pub fn fetching(place: u16) -> bool
+    ensures { λ r. ⌜ r ≡ fetchingAt place ⌝ }
+{
+    (WARNING <= place) & (place < PLACES) & (place % 2 == 0)
+}
+
+// The sprite whose slot this place holds; 0 where it holds none.
+pub fn sprite_at(place: u16) -> usize
+    ensures { λ r. ⌜ r ≡ spriteIn place ⌝ }
+{
+    if place < WARNING {
+        return 0;
+    }
+    if PLACES <= place {
+        return 0;
+    }
+    ((place - WARNING) / 2) as usize
+}
+
+// Away from the sprites' phases of a line's end.
+pub fn calm(place: u16) -> bool
+    ensures { λ r. ⌜ r ≡ isCalm place ⌝ }
+{
+    WARNING < place
+}
+
+// ---- the requests
+
 // The sprites that ask for the bus in a cycle, sprite k at bit k; none for a number that is no cycle.
-pub fn mask(cycle: u16) -> u8
-    ensures { λ r. ⌜ r ≡ maskAt cycle ⌝ }
+pub fn mask(kind: u8, cycle: u16) -> u8
+    ensures { λ r. ⌜ r ≡ maskAt (kindOf kind) cycle ⌝ }
 {
     if cycle < 1 {
         return 0;
     }
-    if cycle <= LAST_DATA {
-        return asking(cycle + LAST_CYCLE - FIRST_REQUEST);
-    }
-    if cycle < FIRST_REQUEST {
+    if last_cycle(kind) < cycle {
         return 0;
     }
-    if cycle <= LAST_CYCLE {
-        return asking(cycle - FIRST_REQUEST);
-    }
-    0
+    asking(place(kind, cycle))
 }
 
 // How many sprites have DMA on.
@@ -72,52 +149,11 @@ pub fn sprites_in(dma: u8) -> u32
     u8::count_ones(dma)
 }
 
-// Some sprite's pointer slot is in this cycle: every odd one to 9, every even one from 58.
-pub fn pointer_time(cycle: u16) -> bool
-    ensures { λ r. ⌜ r ≡ pointerTime cycle ⌝ }
+// The slots of cycles 1 and 2 and sprite 0's pointer slot come after their cycle's arbitration.
+pub fn slot_after_bus(kind: u8, cycle: u16) -> bool
+    ensures { λ r. ⌜ r ≡ slotAfterBus (kindOf kind) cycle ⌝ }
 {
-    ((cycle <= 9) & (cycle % 2 == 1)) | ((cycle <= 62) & (58 <= cycle) & (cycle % 2 == 0))
-}
-
-// Some sprite's data slot is in this cycle: the one after each pointer slot.
-pub fn data_time(cycle: u16) -> bool
-    ensures { λ r. ⌜ r ≡ dataTime cycle ⌝ }
-{
-    ((cycle <= 10) & (2 <= cycle) & (cycle % 2 == 0))
-        | ((cycle <= 63) & (59 <= cycle) & (cycle % 2 == 1))
-}
-
-// The sprite whose slot this cycle holds; 0 where it holds none.
-pub fn slot_sprite(cycle: u16) -> usize
-    ensures { λ r. ⌜ r ≡ slotSprite cycle ⌝ }
-{
-    if cycle < 1 {
-        return 0;
-    }
-    if cycle <= 10 {
-        return ((cycle + 5) / 2) as usize;
-    }
-    if cycle < 58 {
-        return 0;
-    }
-    if cycle <= 63 {
-        return ((cycle - 58) / 2) as usize;
-    }
-    0
-}
-
-// The slots of cycles 1, 2 and 58 come after their cycle's arbitration.
-pub fn slot_after_bus(cycle: u16) -> bool
-    ensures { λ r. ⌜ r ≡ slotAfterBus cycle ⌝ }
-{
-    (cycle == 1) | (cycle == 2) | (cycle == 58)
-}
-
-// Sprite 0's pointer slot.
-pub fn first_slot(cycle: u16) -> bool
-    ensures { λ r. ⌜ r ≡ happens (pointerOf 0) cycle ⌝ }
-{
-    cycle == 58
+    (cycle == 1) | (cycle == 2) | (cycle == first_pointer(kind))
 }
 
 // ---- stretches of a line in which some events never happen
@@ -150,18 +186,18 @@ pub fn between(cycle: u16) -> bool
     ((2 <= cycle) & (cycle <= 55)) | ((58 <= cycle) & (cycle <= 62))
 }
 
-// Away from the sprites' phases of a line's end.
-pub fn calm(cycle: u16) -> bool
-    ensures { λ r. ⌜ r ≡ isCalm cycle ⌝ }
-{
-    (cycle <= 15) | (59 <= cycle)
-}
-
 // Where no counter of a row moves.
 pub fn still(cycle: u16) -> bool
     ensures { λ r. ⌜ r ≡ isStill cycle ⌝ }
 {
     ((3 <= cycle) & (cycle <= 13)) | (59 <= cycle)
+}
+
+// Where the next cycle has a graphics access.
+pub fn before_graphics(cycle: u16) -> bool
+    ensures { λ r. ⌜ r ≡ beforeGraphics cycle ⌝ }
+{
+    (15 <= cycle) & (cycle <= 54)
 }
 
 // ---- each event of the diagram, as a test of the cycle
@@ -250,22 +286,22 @@ pub fn mcbase_step(cycle: u16) -> bool
     cycle == 16
 }
 
-pub fn first_phase(cycle: u16) -> bool
-    ensures { λ r. ⌜ r ≡ happens firstPhase cycle ⌝ }
+pub fn first_phase(kind: u8, cycle: u16) -> bool
+    ensures { λ r. ⌜ r ≡ happens (firstPhase (kindOf kind)) cycle ⌝ }
 {
-    cycle == 55
+    cycle == first_pointer(kind) - WARNING
 }
 
-pub fn second_phase(cycle: u16) -> bool
-    ensures { λ r. ⌜ r ≡ happens secondPhase cycle ⌝ }
+pub fn second_phase(kind: u8, cycle: u16) -> bool
+    ensures { λ r. ⌜ r ≡ happens (secondPhase (kindOf kind)) cycle ⌝ }
 {
-    cycle == 56
+    cycle == first_pointer(kind) - 2
 }
 
-pub fn mc_load(cycle: u16) -> bool
-    ensures { λ r. ⌜ r ≡ happens mcLoad cycle ⌝ }
+pub fn mc_load(kind: u8, cycle: u16) -> bool
+    ensures { λ r. ⌜ r ≡ happens (mcLoad (kindOf kind)) cycle ⌝ }
 {
-    cycle == 58
+    cycle == first_pointer(kind)
 }
 
 pub fn main_remembered(cycle: u16) -> bool
@@ -298,8 +334,8 @@ pub fn right40(cycle: u16) -> bool
     cycle == 57
 }
 
-pub fn line_ends(cycle: u16) -> bool
-    ensures { λ r. ⌜ r ≡ happens lineEnds cycle ⌝ }
+pub fn line_ends(kind: u8, cycle: u16) -> bool
+    ensures { λ r. ⌜ r ≡ happens (lineEnds (kindOf kind)) cycle ⌝ }
 {
-    cycle == LAST_CYCLE
+    cycle == last_cycle(kind)
 }

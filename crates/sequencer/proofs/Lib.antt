@@ -5,3 +5,4 @@ pub mod Runs
 pub mod Staged
 pub mod Skip
 pub mod Sides
+pub mod Numbers

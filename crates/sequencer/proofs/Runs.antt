@@ -13,11 +13,12 @@ use Rattle.memory.specs.Lent.{Host, lentRefusal}
 use Rattle.registers.specs.declared.Registers.{Registers}
 use Rattle.chip.specs.declared.Chip.{Chip}
 use Rattle.chip.specs.declared.Answer.{Answer}
-use Rattle.chip.specs.Accept.{accepted}
+use Rattle.chip.specs.Accept.{accepted, stateRefusal}
 use Rattle.chip.specs.Chip.{answer}
 use Rattle.sequencer.specs.World.{World, chipOf}
 use Rattle.sequencer.specs.Tick.{tickable, tickWorld, tickRefusal, ticked, ticksFrom}
 use Rattle.sequencer.specs.Machinery.Parts.{Ready, Held}
+use Rattle.chip.proofs.Fine.{accepted-taken}
 use Rattle.chip.proofs.Accepted.{accepted-clock, accepted-forced, clock-fine-range}
 use Rattle.sequencer.proofs.Clock.{tickable-can}
 use Rattle.sequencer.proofs.Kept.{world-kept}
@@ -75,9 +76,9 @@ module _ (h : Host) (c : Chip) where
     unfolding tickRefusal
     lent-first {r} e nz nn = refused-first h c r n (rw (← e, ne-eqb r 0 nz)) nz nn
 
-    pub state-first : lentRefusal h ≡ 0 → accepted c ≡ false → (n ≡ 0 → ⊥) → answer 3 c ≡ ticksFrom h n c
+    pub state-first : {r : ℕ} → lentRefusal h ≡ 0 → r ≡ stateRefusal c → (r ≡ 0 → ⊥) → (n ≡ 0 → ⊥) → answer r c ≡ ticksFrom h n c
     unfolding tickRefusal
-    state-first e a nn = refused-first h c 3 n (rw (e, a)) (λ z. omega arith) nn
+    state-first {r} l e nz nn = refused-first h c r n (rw (l, ← e, ne-eqb r 0 nz)) nz nn
 
 module _ (h : Host) (g : Registers) (w₀ : World) (n : ℕ) where
   pub record Going (w : World) (i : ℕ) : Type 0 where
@@ -91,11 +92,11 @@ module _ (h : Host) (g : Registers) (w₀ : World) (n : ℕ) where
   -- what a tick of a held state answers
   taken : (w : World) → Held h g w → tickable (w .side .bus .clock) ≡ true → ticked h (chipOf g w) ≡ answer 0 (chipOf g (tickWorld h g w))
   unfolding ticked tickRefusal
-  taken w held t = rw (held .free, held .fine, t)
+  taken w held t = rw (held .free, accepted-taken (chipOf g w) (held .fine), t)
 
   late : (w : World) → Held h g w → tickable (w .side .bus .clock) ≡ false → ticked h (chipOf g w) ≡ answer 4 (chipOf g w)
   unfolding ticked tickRefusal
-  late w held t = rw (held .free, held .fine, t)
+  late w held t = rw (held .free, accepted-taken (chipOf g w) (held .fine), t)
 
   pub on : {w v : World} {i : ℕ} → Going w i → i < n → tickable (w .side .bus .clock) ≡ true → v ≡ tickWorld h g w
       → length (v .matrix) ≡ length (w .matrix) → length (v .pointers) ≡ length (w .pointers) → length (v .bytes) ≡ length (w .bytes) → length (v .words) ≡ length (w .words)

@@ -9,6 +9,8 @@ use Rattle.registers.specs.Control.{timed}
 use Rattle.chip.specs.Chip.{answer}
 use Rattle.chip.specs.Accept.{accepted}
 use Rattle.sequencer.specs.Tick.{tickable, tickWorld, tickOf, tickRefusal, ticked}
+use Rattle.schedule.specs.Kind.{known}
+use Rattle.chip.proofs.Fine.{accepted-taken, unaccepted-3, unknown-12}
 use Rattle.chip.proofs.Level.{Level, LevelAnswers}
 
 -- a tick refused for its bank, and for its state
@@ -16,18 +18,22 @@ pub tick-bank : (h : Host) (c : Chip) → lentRefusal h ≡ 2 → ticked h c ≡
 unfolding ticked tickRefusal
 tick-bank h c l = simp l
 
-pub tick-unaccepted : (h : Host) (c : Chip) → lentRefusal h ≡ 0 → accepted c ≡ false → ticked h c ≡ answer 3 c
+pub tick-unaccepted : (h : Host) (c : Chip) → lentRefusal h ≡ 0 → known (c .side .beam .kind) ≡ true → accepted c ≡ false → ticked h c ≡ answer 3 c
 unfolding ticked tickRefusal
-tick-unaccepted h c l e = simp (l, e)
+tick-unaccepted h c l k e = simp (l, unaccepted-3 c k e)
+
+pub tick-unknown : (h : Host) (c : Chip) → lentRefusal h ≡ 0 → known (c .side .beam .kind) ≡ false → ticked h c ≡ answer 12 c
+unfolding ticked tickRefusal
+tick-unknown h c l k = simp (l, unknown-12 c k)
 
 -- the tick, where its state is accepted and its memory legal: taken, or refused for its clock
 pub tick-taken : (h : Host) (c : Chip) → lentRefusal h ≡ 0 → accepted c ≡ true → tickable (c .side .bus .clock) ≡ true → ticked h c ≡ answer 0 (tickOf h c)
 unfolding ticked tickRefusal
-tick-taken h c l e t = simp (l, e, t)
+tick-taken h c l e t = simp (l, accepted-taken c e, t)
 
 pub tick-late : (h : Host) (c : Chip) → lentRefusal h ≡ 0 → accepted c ≡ true → tickable (c .side .bus .clock) ≡ false → ticked h c ≡ answer 4 c
 unfolding ticked tickRefusal
-tick-late h c l e t = simp (l, e, t)
+tick-late h c l e t = simp (l, accepted-taken c e, t)
 
 -- a tick's timing side is the timing step's, whatever the host lends
 pub tick-side : (h : Host) (c : Chip) → tickOf h c .side ≡ turned (timed (c .regs)) (c .side) .side

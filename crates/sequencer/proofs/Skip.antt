@@ -12,10 +12,11 @@ use Rattle.laws.proofs.Choice.{left, right, by-test}
 use Rattle.memory.specs.Lent.{Host}
 use Rattle.registers.specs.declared.Registers.{Registers}
 use Rattle.registers.specs.Control.{YSCROLL, modeNumber, timed}
-use Rattle.schedule.specs.Diagram.{happens, graphicsAccess}
-use Rattle.schedule.proofs.Parts.{mid}
+use Rattle.schedule.specs.Kind.{kindOf}
+use Rattle.schedule.specs.Machinery.Stretches.{beforeGraphics}
+use Rattle.schedule.proofs.Places.{last-most}
 use Rattle.timing.specs.Beam.{nextCycle}
-use Rattle.timing.proofs.Kept.{cycle-next}
+use Rattle.timing.proofs.Kept.{cycle-on}
 use Rattle.arbitration.specs.Bus.{clockOn}
 use Rattle.arbitration.proofs.Kept.{clock-on}
 use Rattle.side.specs.declared.Side.{Side}
@@ -91,8 +92,8 @@ module _ (h : Host) (g : Registers) where
   able-on : {w : World} → Able g w → w .side .beam .cycle + 1 ≤ 53 → Able g (tickWorld h g w)
   able-on {w} e l = rw (← quiet-world w e) (able-quiet e l)
 
-  next-cycle : {w : World} → Able g w → nextCycle (w .side .beam .cycle) ≡ w .side .beam .cycle + 1
-  next-cycle {w} e = cycle-next (w .side .beam .cycle) (omega (arith, e .counts .high))
+  next-cycle : {w : World} → Able g w → nextCycle (kindOf (w .side .beam .kind)) (w .side .beam .cycle) ≡ w .side .beam .cycle + 1
+  next-cycle {w} e = cycle-on (kindOf (w .side .beam .kind)) (w .side .beam .cycle) (omega (arith, e .counts .high))
 
   -- a tick and k counted, or one more counted, and then a tick
   step : (w : World) (k : ℕ) → Able g w → inRange (w .side .bus .clock) → w .side .beam .cycle + suc k ≤ 53
@@ -128,7 +129,7 @@ module _ (h : Host) (g : Registers) where
     unfolding tickWorld
     tick-words = slotted-words _ _ _ _ _ _ _ _
 
-    tick-cycle : tickWorld h g w .side .beam .cycle ≡ nextCycle (w .side .beam .cycle)
+    tick-cycle : tickWorld h g w .side .beam .cycle ≡ nextCycle (kindOf (w .side .beam .kind)) (w .side .beam .cycle)
     unfolding tickWorld
     tick-cycle = side-cycle _ (w .side)
 
@@ -137,7 +138,7 @@ module _ (h : Host) (g : Registers) where
   later-none {w} held =
       let f = accepted-fine (chipOf g w) (held .fine) .side in
       ap (λ (s : Side). record { side = s; pen = w .pen; matrix = w .matrix; pointers = w .pointers; bytes = w .bytes; words = w .words })
-      (leap-none (w .side) (f .clock) (omega (arith, f .rows .vc)) (omega (arith, f .rows .vmli, limit-small (w .side .beam .cycle) (f .last))))
+      (leap-none (w .side) (f .clock) (omega (arith, f .rows .vc)) (omega (arith, f .rows .vmli, limit-small (w .side .beam .cycle) (omega (arith, f .last, last-most (kindOf (w .side .beam .kind)))))))
 
 -- how many are counted before the one that is done: fewer than are left, and only where they may be
 module _ (able' : Bool) (cycle left' : ℕ) where
@@ -178,14 +179,14 @@ module _ (able' : Bool) (cycle left' : ℕ) where
       few h = by-test (λ (k : ℕ). cycle + k ≤ 53) (ltb (53 - cycle) left') (λ u. omega arith) (λ u. let v : left' ≤ 53 - cycle = ltb-false (53 - cycle) left' u in omega arith)
 
 -- the tick after them has a graphics access as the one before them
-pub lit-later : (c k : ℕ) → (0 < k → (18 ≤ c) × (c + k ≤ 53)) → happens graphicsAccess (nextCycle c) ≡ true → happens graphicsAccess (nextCycle (c + k)) ≡ true
+pub lit-later : (c k : ℕ) → (0 < k → (18 ≤ c) × (c + k ≤ 53)) → beforeGraphics c ≡ true → beforeGraphics (c + k) ≡ true
+unfolding beforeGraphics
 lit-later c zero f e = let q : c + 0 ≡ c = omega arith in rw q e
 lit-later c (suc k) f e =
     let b = f (omega arith) in
     let low : 18 ≤ c = b .0 in
     let high : c + suc k ≤ 53 = b .1 in
-    let next = cycle-next (c + suc k) (omega arith) in
-    rw next (mid (c + suc k + 1) (rw (le-leb 19 (c + suc k + 1) (omega arith), le-leb (c + suc k + 1) 54 (omega arith)) refl) .graphics)
+    rw (le-leb 15 (c + suc k) (omega arith), le-leb (c + suc k) 54 (omega arith))
 
 room-later : (k m : ℕ) (z : ℤ) → k < m → Roomy m z → canTick (clockOn k z)
 room-later k m (pos n) l r = rw (clock-on k n) (omega arith)

@@ -12,7 +12,7 @@ use Rattle.picture.specs.Pen.{penAfter, matrixAfter, slotted}
 use Rattle.chip.specs.declared.Chip.{Chip}
 use Rattle.chip.specs.declared.Answer.{Answer}
 use Rattle.chip.specs.Chip.{answer}
-use Rattle.chip.specs.Accept.{accepted}
+use Rattle.chip.specs.Accept.{stateRefusal}
 use Rattle.sequencer.specs.World.{World, worldOf, chipOf}
 
 -- 01, One tick: the timing side's step, then the picture's, by its orders
@@ -40,10 +40,10 @@ unfoldable pub tickable : ℤ → Bool
 tickable (pos n) = leb n lastTickable
 tickable (negsuc n) = true
 
--- 01, Numbers: what is lent first, then 3 where the state is not accepted, 4 where the clock is above its limit; in number order
+-- 01, Numbers; 02 (iv): what is lent first, then the state, 12 and 3, then 4 where the clock is above its limit
 unfoldable pub tickRefusal : Host → Chip → ℕ
 tickRefusal h c =
-    cond (eqb (lentRefusal h) 0) (cond (accepted c) (cond (tickable (c .side .bus .clock)) 0 4) 3) (lentRefusal h)
+    cond (eqb (lentRefusal h) 0) (cond (eqb (stateRefusal c) 0) (cond (tickable (c .side .bus .clock)) 0 4) (stateRefusal c)) (lentRefusal h)
 
 -- a refused tick gives the state back unchanged
 unfoldable pub ticked : Host → Chip → Answer

@@ -7,8 +7,7 @@ ghost use lib.ListN.{length};
 ghost use lib.IntN.{ℤ};
 ghost use Rattle.laws.specs.Clock.{inRange, canTick};
 ghost use Rattle.memory.specs.Lent.{host, lentRefusal};
-ghost use Rattle.schedule.specs.Diagram.{happens, graphicsAccess};
-ghost use Rattle.timing.specs.Beam.{nextCycle};
+ghost use Rattle.schedule.specs.Machinery.Stretches.{beforeGraphics};
 ghost use Rattle.chip.specs.Chip.{chip, answer};
 ghost use Rattle.chip.specs.Accept.{accepted};
 ghost use Rattle.sequencer.specs.World.{world, chipOf};
@@ -52,7 +51,7 @@ fn inner_lit(
     colour: &[u8],
     bank: u8,
 ) -> Core
-    requires { ⌜ Ready (host (now ram) (now rom) (now colour) bank) (world core (now matrix) (now pointers) (now bytes) (now words)) ⌝ ∗ ⌜ happens graphicsAccess (nextCycle (core .side .beam .cycle)) ≡ Bool.true ⌝ }
+    requires { ⌜ Ready (host (now ram) (now rom) (now colour) bank) (world core (now matrix) (now pointers) (now bytes) (now words)) ⌝ ∗ ⌜ beforeGraphics (core .side .beam .cycle) ≡ Bool.true ⌝ }
     ensures { λ r. ⌜ world r (now (matrix .exit)) (now (pointers .exit)) (now (bytes .exit)) (now (words .exit)) ≡ tickWorld (host (now (ram .entry)) (now (rom .entry)) (now (colour .entry)) bank) regs (world core (now (matrix .entry)) (now (pointers .entry)) (now (bytes .entry)) (now (words .entry))) ⌝ }
 {
     let side0 = core.side;
@@ -94,7 +93,7 @@ fn inner_dark(
     colour: &[u8],
     bank: u8,
 ) -> Core
-    requires { ⌜ Ready (host (now ram) (now rom) (now colour) bank) (world core (now matrix) (now pointers) (now bytes) (now words)) ⌝ ∗ ⌜ happens graphicsAccess (nextCycle (core .side .beam .cycle)) ≡ Bool.false ⌝ }
+    requires { ⌜ Ready (host (now ram) (now rom) (now colour) bank) (world core (now matrix) (now pointers) (now bytes) (now words)) ⌝ ∗ ⌜ beforeGraphics (core .side .beam .cycle) ≡ Bool.false ⌝ }
     ensures { λ r. ⌜ world r (now (matrix .exit)) (now (pointers .exit)) (now (bytes .exit)) (now (words .exit)) ≡ tickWorld (host (now (ram .entry)) (now (rom .entry)) (now (colour .entry)) bank) regs (world core (now (matrix .entry)) (now (pointers .entry)) (now (bytes .entry)) (now (words .entry))) ⌝ }
 {
     let side0 = core.side;
@@ -156,7 +155,7 @@ fn skips(able: bool, cycle: u16, left: u64) -> u8
 }
 
 fn leap(core: Core, k: u8) -> Core
-    requires { ⌜ inRange (core .side .bus .clock) ⌝ ∗ ⌜ core .side .beam .cycle < 64 ⌝ }
+    requires { ⌜ inRange (core .side .bus .clock) ⌝ ∗ ⌜ core .side .beam .cycle < 66 ⌝ }
     ensures { λ r. ⌜ r ≡ coreLater k core ⌝ }
 {
     let side = core.side;
@@ -183,14 +182,14 @@ fn lit_run(
     n: u64,
 ) -> Gone
     requires { ⌜ Held (host (now ram) (now rom) (now colour) bank) regs (world core (now matrix) (now pointers) (now bytes) (now words)) ⌝ ∗ ⌜ Roomy n (core .side .bus .clock) ⌝ }
-    ensures { λ r. ⌜ Part (host (now (ram .entry)) (now (rom .entry)) (now (colour .entry)) bank) regs n (happens graphicsAccess (nextCycle (core .side .beam .cycle))) (world core (now (matrix .entry)) (now (pointers .entry)) (now (bytes .entry)) (now (words .entry))) (r .done) (world (r .core) (now (matrix .exit)) (now (pointers .exit)) (now (bytes .exit)) (now (words .exit))) ⌝ }
+    ensures { λ r. ⌜ Part (host (now (ram .entry)) (now (rom .entry)) (now (colour .entry)) bank) regs n (beforeGraphics (core .side .beam .cycle)) (world core (now (matrix .entry)) (now (pointers .entry)) (now (bytes .entry)) (now (words .entry))) (r .done) (world (r .core) (now (matrix .exit)) (now (pointers .exit)) (now (bytes .exit)) (now (words .exit))) ⌝ }
 {
     let mut now = core;
     let mut i = 0u64;
     while i < n {
         let side = now.side;
         let beam = side.beam;
-        let lit = side::is_lit(beam.cycle);
+        let lit = schedule::before_graphics(beam.cycle);
         if !lit {
             return Gone { done: i, core: now };
         }
@@ -229,14 +228,14 @@ fn dark_run(
     n: u64,
 ) -> Gone
     requires { ⌜ Held (host (now ram) (now rom) (now colour) bank) regs (world core (now matrix) (now pointers) (now bytes) (now words)) ⌝ ∗ ⌜ Roomy n (core .side .bus .clock) ⌝ }
-    ensures { λ r. ⌜ Part (host (now (ram .entry)) (now (rom .entry)) (now (colour .entry)) bank) regs n (not (happens graphicsAccess (nextCycle (core .side .beam .cycle)))) (world core (now (matrix .entry)) (now (pointers .entry)) (now (bytes .entry)) (now (words .entry))) (r .done) (world (r .core) (now (matrix .exit)) (now (pointers .exit)) (now (bytes .exit)) (now (words .exit))) ⌝ }
+    ensures { λ r. ⌜ Part (host (now (ram .entry)) (now (rom .entry)) (now (colour .entry)) bank) regs n (not (beforeGraphics (core .side .beam .cycle))) (world core (now (matrix .entry)) (now (pointers .entry)) (now (bytes .entry)) (now (words .entry))) (r .done) (world (r .core) (now (matrix .exit)) (now (pointers .exit)) (now (bytes .exit)) (now (words .exit))) ⌝ }
 {
     let mut now = core;
     let mut i = 0u64;
     while i < n {
         let side = now.side;
         let beam = side.beam;
-        let lit = side::is_lit(beam.cycle);
+        let lit = schedule::before_graphics(beam.cycle);
         if lit {
             return Gone { done: i, core: now };
         }
@@ -276,7 +275,7 @@ fn stage(
 {
     let side = core.side;
     let beam = side.beam;
-    let lit = side::is_lit(beam.cycle);
+    let lit = schedule::before_graphics(beam.cycle);
     if lit {
         return lit_run(
             core,
@@ -485,10 +484,10 @@ pub fn ticks(chip: Chip, ram: &[u8], rom: &[u8], colour: &[u8], bank: u8, n: u64
             chip: chip,
         };
     }
-    let fine = chip::is_accepted(chip);
-    if !fine {
+    let state = chip::state_refusal(chip);
+    if state != 0 {
         return Answer {
-            refused: 3,
+            refused: state,
             chip: chip,
         };
     }

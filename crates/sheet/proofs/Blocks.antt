@@ -178,6 +178,6 @@ block s m start out left r after f =
     }
 
 -- 01, chart: at the start all of the chart is to come
-pub begins : (s : List ℕ) (m : Store) → toCome s m begunOf ≡ chartOf m s
+pub begins : (kind : ℕ) (s : List ℕ) (m : Store) → toCome s m (begunOf kind) ≡ chartOf kind m s
 unfolding chartOf begunOf driveBegun ahead startOf
-begins s m = ap (λ l. told m begunOf l) (enough _ (length s + 1) s startOf (omega arith) (omega arith) ∙ whole s)
+begins kind s m = ap (λ l. told m (begunOf kind) l) (enough _ (length s + 1) s startOf (omega arith) (omega arith) ∙ whole s)

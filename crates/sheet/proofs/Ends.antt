@@ -96,9 +96,9 @@ module _ (s : List ℕ) where
       ∙ begin-end m start g e
 
   -- from the start
-  pub end-begins : (m : Store) → toEnd m begunOf ≡ endedOf m s
+  pub end-begins : (kind : ℕ) (m : Store) → toEnd m (begunOf kind) ≡ endedOf kind m s
   unfolding endedOf begunOf driveBegun ahead startOf
-  end-begins m = ap (λ (n : ℕ). ended n s m begunOf) (omega arith)
+  end-begins kind m = ap (λ (n : ℕ). ended n s m (begunOf kind)) (omega arith)
 
 -- a block that is full: the next text begins another
 full : (r : Run) (room : Bool) → leb (r .at) 65472 ≡ room → goes r ≡ false → r .going ≡ true → roomed r ≡ emptied r
@@ -135,9 +135,9 @@ pub record Prints (s : List ℕ) (m : Store) (start : Run) (left : Store) (r : R
   pub fresh : r .going ≡ true → roomed r ≡ emptied r
 
 module _ (s : List ℕ) (m : Store) (start : Run) where
-  pub nothing-yet : (out : List ℕ) → start ≡ begunOf → Prints s m start m start out
+  pub nothing-yet : (kind : ℕ) (out : List ℕ) → start ≡ begunOf kind → Prints s m start m start out
   unfolding begunOf driveBegun
-  nothing-yet out e =
+  nothing-yet kind out e =
       record {
         earlier = [];
         whole = ap (λ (x : Run). take (x .at) out ++ toCome s m start) e;
@@ -161,11 +161,11 @@ module _ (s : List ℕ) (m : Store) (start : Run) where
       }
 
 -- the run is over: its end, and the last of the chart
-module _ (s : List ℕ) (m : Store) (start : Run) (left : Store) (r : Run) (out : List ℕ) (was : Prints s m start left r out) (begun : start ≡ begunOf) (done : r .going ≡ false) where
-  pub all-ended : end r left ≡ endedOf m s
-  all-ended = sym (is-over s (ahead s r) left r done) ∙ was .ends ∙ ap (toEnd s m) begun ∙ end-begins s m
+module _ (kind : ℕ) (s : List ℕ) (m : Store) (start : Run) (left : Store) (r : Run) (out : List ℕ) (was : Prints s m start left r out) (begun : start ≡ begunOf kind) (done : r .going ≡ false) where
+  pub all-ended : end r left ≡ endedOf kind m s
+  all-ended = sym (is-over s (ahead s r) left r done) ∙ was .ends ∙ ap (toEnd s m) begun ∙ end-begins s kind m
 
-  pub all-printed : Ends (chartOf m s) out (r .at)
+  pub all-printed : Ends (chartOf kind m s) out (r .at)
   all-printed =
       let here = was .earlier ++ take (r .at) out in
       record {
@@ -175,5 +175,5 @@ module _ (s : List ℕ) (m : Store) (start : Run) (left : Store) (r : Run) (out 
             ∙ ap (λ (l : List ℕ). here ++ l) (sym (over s left r done))
             ∙ was .whole
             ∙ ap (toCome s m) begun
-            ∙ begins s m;
+            ∙ begins kind s m;
       }

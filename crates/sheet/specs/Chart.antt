@@ -17,9 +17,9 @@ unfoldable pub told : Store → Run → List Item → List ℕ
 told m r [] = []
 told m r (i ∷ more) = saidAt m r i ++ cond (runAt m r i .going) (told (storeAt m i) (runAt m r i) more) []
 
--- 01, chart: of the run file's items, from power-up
-unfoldable pub chartOf : Store → List ℕ → List ℕ
-chartOf m s = told m begunOf (runOf s)
+-- 01, chart: of the run file's items, from power-up of a kind
+unfoldable pub chartOf : ℕ → Store → List ℕ → List ℕ
+chartOf kind m s = told m (begunOf kind) (runOf s)
 
 -- ---- what a run leaves
 
@@ -40,8 +40,8 @@ ended zero s m r = end r m
 ended (suc n) s m r = cond (r .going) (ended n s (storeIn s m (roomed r)) (runIn s m (roomed r))) (end r m)
 
 -- 01, Run file: from power-up. A turn reads at least a byte or is the last, so that these are enough
-unfoldable pub endedOf : Store → List ℕ → End
-endedOf m s = ended (length s + 1) s m begunOf
+unfoldable pub endedOf : ℕ → Store → List ℕ → End
+endedOf kind m s = ended (length s + 1) s m (begunOf kind)
 
 -- the bytes of a buffer up to a place are the last of a chart
 pub record Ends (chart out : List ℕ) (at : ℕ) : Type 0 where

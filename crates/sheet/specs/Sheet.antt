@@ -27,8 +27,8 @@ abbrev pub withText : Drive → ℕ → Run
 withText d at = record { chip = d .chip; cursor = d .cursor; at = at; done = d .done; bank = d .bank; going = d .going }
 
 -- nothing is written
-unfoldable pub begunOf : Run
-begunOf = withText driveBegun 0
+unfoldable pub begunOf : ℕ → Run
+begunOf kind = withText (driveBegun kind) 0
 
 abbrev pub cursorAt : Run → Cursor → Run
 cursorAt r c = record { chip = r .chip; cursor = c; at = r .at; done = r .done; bank = r .bank; going = r .going }

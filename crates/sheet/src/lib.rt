@@ -58,10 +58,10 @@ fn driven(run: Run) -> driver::Run
     }
 }
 
-pub fn begun() -> Run
-    ensures { λ r. ⌜ r ≡ begunOf ⌝ }
+pub fn begun(kind: u8) -> Run
+    ensures { λ r. ⌜ r ≡ begunOf kind ⌝ }
 {
-    with_text(driver::begun(), 0)
+    with_text(driver::begun(kind), 0)
 }
 
 // The run with its text at another place, going on or not.
@@ -189,14 +189,21 @@ fn flush(out: &[u8], at: usize)
     io::write_all(STDOUT_FILENO, &out[..at]);
 }
 
-// The whole chart to standard output, and the run as it ended. The memory that is lent is the run's own, and starts 0.
-pub fn print(input: &[u8], ram: &mut [u8], rom: &mut [u8], colour: &mut [u8], out: &mut [u8]) -> Run
+// The whole chart of a run on a kind of chip to standard output, and the run as it ended. The memory that is lent is the run's own, and starts 0.
+pub fn print(
+    kind: u8,
+    input: &[u8],
+    ram: &mut [u8],
+    rom: &mut [u8],
+    colour: &mut [u8],
+    out: &mut [u8],
+) -> Run
     requires { ⌜ 65536 ≡ length (now out) ⌝ }
     ensures { λ r. ⌜ r .going ≡ false ⌝ }
-    ensures { λ r. ⌜ end r (store (now (ram .exit)) (now (rom .exit)) (now (colour .exit))) ≡ endedOf (store (now (ram .entry)) (now (rom .entry)) (now (colour .entry))) (now (input .entry)) ⌝ }
-    ensures { λ r. ⌜ Ends (chartOf (store (now (ram .entry)) (now (rom .entry)) (now (colour .entry))) (now (input .entry))) (now (out .exit)) (r .at) ⌝ }
+    ensures { λ r. ⌜ end r (store (now (ram .exit)) (now (rom .exit)) (now (colour .exit))) ≡ endedOf kind (store (now (ram .entry)) (now (rom .entry)) (now (colour .entry))) (now (input .entry)) ⌝ }
+    ensures { λ r. ⌜ Ends (chartOf kind (store (now (ram .entry)) (now (rom .entry)) (now (colour .entry))) (now (input .entry))) (now (out .exit)) (r .at) ⌝ }
 {
-    let mut run = begun();
+    let mut run = begun(kind);
     while run.going {
         run = fill(run, input, &mut *ram, &mut *rom, &mut *colour, &mut *out);
         flush(out, run.at);

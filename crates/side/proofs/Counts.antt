@@ -3,17 +3,19 @@ use Prim.Native.Nat.{ℕ, suc, _+_, _%_, _<_, _≤_}
 use mathlib.Core.Path.{_≡_, refl, sym, _∙_}
 use mathlib.Core.Bool.{Bool, true, false, not, _&&_, cond}
 use native.Mathlib.Omega.{arith}
-use lib.Dec.{eqb}
+use lib.Dec.{eqb, leb}
 use lib.IntN.{pos}
 use borrow.Author.Tests.{le-leb, not-true}
 use Rattle.laws.specs.Bits.{hasBit}
 use Rattle.laws.specs.Clock.{inRange}
 use Rattle.laws.proofs.Choice.{left, right}
-use Rattle.schedule.proofs.Parts.{Mid, mid, lit, past}
+use Rattle.schedule.specs.Kind.{kindOf}
+use Rattle.schedule.specs.Requests.{maskAt}
+use Rattle.schedule.proofs.Parts.{mid, unasked, lit, slotless}
 use Rattle.registers.specs.declared.Controls.{Controls}
 use Rattle.timing.specs.Beam.{nextCycle, badLine}
 use Rattle.timing.specs.Set.{cycle≔}
-use Rattle.timing.proofs.Kept.{cycle-next, moved, beam-moved}
+use Rattle.timing.proofs.Kept.{cycle-on, moved, beam-moved}
 use Rattle.sprites.specs.Sprites.{spriteAt}
 use Rattle.arbitration.specs.declared.Bus.{Bus}
 use Rattle.arbitration.specs.Bus.{clockOn, clocked}
@@ -69,7 +71,7 @@ counts yscroll s e l h =
 -- what such a tick leaves
 abbrev pub quiet : Controls → Side → Turned
 quiet g s =
-    let cycle = nextCycle (s .beam .cycle) in
+    let cycle = nextCycle (kindOf (s .beam .kind)) (s .beam .cycle) in
     let rows = rowsLater 1 (s .rows) in
     record {
       side =
@@ -99,19 +101,23 @@ quiet g s =
       };
     }
 
-on-line : (s : Side) (y : ℕ) → Counts y s → Mid (nextCycle (s .beam .cycle))
+on-line : (s : Side) (y : ℕ) → Counts y s → (leb 19 (nextCycle (kindOf (s .beam .kind)) (s .beam .cycle)) && leb (nextCycle (kindOf (s .beam .kind)) (s .beam .cycle)) 54) ≡ true
 on-line s y e =
-    let next = cycle-next (s .beam .cycle) (omega (arith, e .high)) in
-    mid (nextCycle (s .beam .cycle)) (rw (next, le-leb 19 (s .beam .cycle + 1) (omega (arith, e .low)), le-leb (s .beam .cycle + 1) 54 (omega (arith, e .high))) refl)
+    let next = cycle-on (kindOf (s .beam .kind)) (s .beam .cycle) (omega (arith, e .high)) in
+    rw (next, le-leb 19 (s .beam .cycle + 1) (omega (arith, e .low)), le-leb (s .beam .cycle + 1) 54 (omega (arith, e .high))) refl
 
 pub quiet-turn : (g : Controls) (s : Side) → Counts (g .yscroll) s → quiet g s ≡ turned g s
 quiet-turn g s e =
-    let cycle = nextCycle (s .beam .cycle) in
-    let m = on-line s (g .yscroll) e in
+    let k = kindOf (s .beam .kind) in
+    let cycle = nextCycle k (s .beam .cycle) in
+    let on = on-line s (g .yscroll) e in
+    let m = mid cycle on in
+    let u = unasked k cycle on in
     let l = lit cycle (m .graphics) in
-    lit-glue g s l refl refl refl (border-past cycle (s .beam .raster) (g .den) (g .csel) (s .border) l (m .past))
-    (sprites-mid cycle (s .beam .raster) (g .my) (g .enable) (g .yexp) (s .sprites) l m) (beam-moved (s .beam) cycle (g .den) (g .rsel) (g .yscroll) (e .line) (e .bad))
-    (matrix-alone true (s .sprites .dma) cycle (m .asks)) (free-bus (s .bus) (e .balow)) refl refl
+    let o = slotless k cycle (m .graphics) in
+    lit-glue g s l o refl refl refl (border-past k cycle (s .beam .raster) (g .den) (g .csel) (s .border) l o (m .past))
+    (sprites-mid k cycle (s .beam .raster) (g .my) (g .enable) (g .yexp) (s .sprites) o m u) (beam-moved (s .beam) cycle (g .den) (g .rsel) (g .yscroll) (e .line) (e .bad))
+    (matrix-alone true (s .sprites .dma) (maskAt k cycle) (u .asks)) (free-bus (s .bus) (e .balow)) refl refl
     (rows-mid cycle (s .rows) l m (e .transition) (e .access)) (none-missed _ (s .pending))
 
 -- a leap changes none of what the test looks at
@@ -121,20 +127,20 @@ counts-later g s k e h = record { bad = e .bad; line = e .line; balow = e .balow
 -- nor does the tick
 pub counts-on : (g : Controls) (s : Side) → Counts (g .yscroll) s → s .beam .cycle + 1 ≤ 53 → Counts (g .yscroll) (quiet g s .side)
 counts-on g s e h =
-    let next = cycle-next (s .beam .cycle) (omega arith) in
+    let next = cycle-on (kindOf (s .beam .kind)) (s .beam .cycle) (omega arith) in
     record { bad = e .bad; line = e .line; balow = refl; aeclow = refl; transition = refl; access = refl; low = rw next (omega (arith, e .low)); high = rw next h }
 
 -- what is counted after the tick, or before it
 pub quiet-later : (g : Controls) (s : Side) (k : ℕ) → Counts (g .yscroll) s → inRange (s .bus .clock) → quiet g (leapt k (quiet g s .side)) ≡ quiet g (leapt (suc k) s)
 quiet-later g s k e r =
-    let next = cycle-next (s .beam .cycle) (omega (arith, e .high)) in
-    let cycle : nextCycle (s .beam .cycle) + k ≡ s .beam .cycle + suc k = rw next (omega arith) in
+    let next = cycle-on (kindOf (s .beam .kind)) (s .beam .cycle) (omega (arith, e .high)) in
+    let cycle : nextCycle (kindOf (s .beam .kind)) (s .beam .cycle) + k ≡ s .beam .cycle + suc k = rw next (omega arith) in
     rw (cycle, e .aeclow, clock-on-one-more k (s .bus .clock) r, vc-one-more k (s .rows .display) (s .rows .vc), vmli-one-more k (s .rows .display) (s .rows .vmli)) refl
 
 pub leap-turn : (g : Controls) (s : Side) (k : ℕ) → Counts (g .yscroll) s → inRange (s .bus .clock) → s .beam .cycle + suc k ≤ 53
     → turned g (leapt k (turned g s .side)) ≡ turned g (leapt (suc k) s)
 leap-turn g s k e r h =
-    let next = cycle-next (s .beam .cycle) (omega (arith, e .high)) in
+    let next = cycle-on (kindOf (s .beam .kind)) (s .beam .cycle) (omega (arith, e .high)) in
     let q : quiet g s .side .beam .cycle + k ≤ 53 = rw next (omega (arith, h)) in
     rw (← quiet-turn g s e)
     (sym (quiet-turn g (leapt k (quiet g s .side)) (counts-later g (quiet g s .side) k (counts-on g s e (omega (arith, h))) q))

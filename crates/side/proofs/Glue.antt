@@ -5,6 +5,8 @@ use mathlib.Core.Bool.{Bool, not, _&&_, _||_}
 use lib.Dec.{eqb}
 use Rattle.laws.specs.Bits.{hasBit}
 use Rattle.laws.specs.Pick.{pick}
+use Rattle.schedule.specs.Kind.{kindOf}
+use Rattle.schedule.specs.Requests.{maskAt}
 use Rattle.schedule.specs.Diagram.{pointerTime, dataTime, slotSprite, slotAfterBus}
 use Rattle.registers.specs.declared.Controls.{Controls}
 use Rattle.timing.specs.declared.Beam.{Beam}
@@ -26,23 +28,24 @@ use Rattle.side.specs.declared.Turned.{Turned}
 use Rattle.side.specs.Phases.{bordered, phased, slotMoved}
 use Rattle.side.specs.Turn.{turned}
 
-pub turn-glue : (g : Controls) (s : Side) {clk bus : Bus} {cycle k : ℕ} {asked mask after low pointing fetching : Bool} {sweep : Swept} {beam : Beam} {border : Border} {ph spr : Sprites} {sprite : Sprite} {now : Rowed} {pending : Waits}
+pub turn-glue : (g : Controls) (s : Side) {clk bus : Bus} {cycle asking n : ℕ} {asked mask after low pointing fetching : Bool} {sweep : Swept} {beam : Beam} {border : Border} {ph spr : Sprites} {sprite : Sprite} {now : Rowed} {pending : Waits}
     → clk ≡ clocked 1 (s .bus)
-    → cycle ≡ nextCycle (s .beam .cycle)
-    → sweep ≡ swept (s .frame) (s .irq) cycle (s .beam .raster) (g .compare) (g .den) (s .beam .latch)
-    → border ≡ bordered cycle (sweep .raster) (g .den) (g .csel) (s .border)
-    → ph ≡ phased cycle (sweep .raster) (g .my) (g .enable) (g .yexp) (s .sprites)
+    → cycle ≡ nextCycle (kindOf (s .beam .kind)) (s .beam .cycle)
+    → sweep ≡ swept (kindOf (s .beam .kind)) (s .frame) (s .irq) cycle (s .beam .raster) (g .compare) (g .den) (s .beam .latch)
+    → border ≡ bordered (kindOf (s .beam .kind)) cycle (sweep .raster) (g .den) (g .csel) (s .border)
+    → ph ≡ phased (kindOf (s .beam .kind)) cycle (sweep .raster) (g .my) (g .enable) (g .yexp) (s .sprites)
     → beam ≡ beamTurned (s .beam) cycle (sweep .line) (sweep .latch) (sweep .kept) (sweep .raster) (g .den) (g .rsel) (g .yscroll)
-    → asked ≡ requested (beam .ba) (ph .dma) cycle
+    → asking ≡ maskAt (kindOf (s .beam .kind)) cycle
+    → asked ≡ requested (beam .ba) (ph .dma) asking
     → bus ≡ arbitrated clk asked
-    → k ≡ slotSprite cycle
-    → sprite ≡ spriteAt ph k
-    → mask ≡ hasBit (ph .dma) k
-    → spr ≡ slotMoved cycle k ph
-    → after ≡ slotAfterBus cycle
+    → n ≡ slotSprite (kindOf (s .beam .kind)) cycle
+    → pointing ≡ pointerTime (kindOf (s .beam .kind)) cycle
+    → fetching ≡ dataTime (kindOf (s .beam .kind)) cycle
+    → sprite ≡ spriteAt ph n
+    → mask ≡ hasBit (ph .dma) n
+    → spr ≡ slotMoved pointing fetching n ph
+    → after ≡ slotAfterBus (kindOf (s .beam .kind)) cycle
     → low ≡ pick after (bus .aeclow) (s .bus .aeclow)
-    → pointing ≡ pointerTime cycle
-    → fetching ≡ dataTime cycle
     → now ≡ rowed cycle (beam .bad) (beam .rising) (sweep .wraps) (s .rows)
     → pending ≡ pendingAfter (now .fetches && not (bus .aeclow)) (now .rows .vmli) (s .pending)
     → _≡_ {A = Turned} (record {
@@ -70,7 +73,7 @@ pub turn-glue : (g : Controls) (s : Side) {clk bus : Bus} {cycle k : ℕ} {asked
         fills = now .fetches && bus .aeclow;
         place = now .rows .vmli;
         column = now .rows .vc;
-        sprite = k;
+        sprite = n;
         pointing = pointing;
         fetching = fetching;
         mask = mask;
@@ -80,5 +83,5 @@ pub turn-glue : (g : Controls) (s : Side) {clk bus : Bus} {cycle k : ℕ} {asked
       };
     }) (turned g s)
 unfolding turned
-turn-glue g s clk cycle sweep border ph beam asked bus k sprite mask spr after low pointing fetching now pending =
-    rw (← clk, ← cycle, ← sweep, ← border, ← ph, ← beam, ← asked, ← bus, ← k, ← sprite, ← mask, ← spr, ← after, ← low, ← pointing, ← fetching, ← now, ← pending)
+turn-glue g s clk cycle sweep border ph beam asking asked bus n pointing fetching sprite mask spr after low now pending =
+    rw (← clk, ← cycle, ← sweep, ← border, ← ph, ← beam, ← asking, ← asked, ← bus, ← n, ← pointing, ← fetching, ← sprite, ← mask, ← spr, ← after, ← low, ← now, ← pending)

@@ -1,16 +1,17 @@
 -- A tick keeps the timing side of a state we accept as such a state has it, and power-up gives one. Assumes nothing.
 use Prim.Native.Nat.{ℕ, _≤_}
 use mathlib.Core.Path.{_≡_, refl, sym, subst, _∙_}
-use mathlib.Core.Bool.{Bool, cond}
+use mathlib.Core.Bool.{Bool, true, cond}
 use mathlib.Core.List.{List}
 use native.Mathlib.Omega.{arith}
 use Rattle.laws.specs.Clock.{canTick}
 use Rattle.laws.proofs.Choice.{either}
-use Rattle.schedule.specs.Kind.{lastCycle, lastLine}
-use Rattle.schedule.specs.Diagram.{happens, mcbaseStep, firstPhase, secondPhase, mcLoad, pointerTime, dataTime}
+use Rattle.schedule.specs.Kind.{Kind, known, kindOf, lastCycle, lastLine}
+use Rattle.schedule.proofs.Places.{last-least}
+use Rattle.schedule.specs.Diagram.{happens, mcbaseStep, firstPhase, secondPhase, mcLoad}
 use Rattle.registers.specs.declared.Controls.{Controls}
 use Rattle.timing.specs.Beam.{nextCycle}
-use Rattle.timing.proofs.Kept.{cycle-low, cycle-high, turned-cycle, turned-raster, turned-latch, fresh-cycle, fresh-raster}
+use Rattle.timing.proofs.Kept.{cycle-low, cycle-high, turned-kind, turned-cycle, turned-raster, turned-latch, fresh-kind, fresh-cycle, fresh-raster}
 use Rattle.raster.specs.declared.Swept.{Swept}
 use Rattle.raster.specs.Frame.{swept}
 use Rattle.raster.proofs.Laws.{raster-kept}
@@ -34,17 +35,17 @@ use Rattle.side.specs.Turn.{freshSide, turned}
 at-cycle : (b : Bool) {s t : Sprites} → (FineSprites s → FineSprites t) → FineSprites s → FineSprites (cond b t s)
 at-cycle b keeps h = either FineSprites b (keeps h) h
 
-phased-kept : (cycle raster : ℕ) (my : List ℕ) (enable yexp : ℕ) {s : Sprites} → FineSprites s → FineSprites (phased cycle raster my enable yexp s)
+phased-kept : (k : Kind) (cycle raster : ℕ) (my : List ℕ) (enable yexp : ℕ) {s : Sprites} → FineSprites s → FineSprites (phased k cycle raster my enable yexp s)
 unfolding phased stepAt firstAt secondAt loadAt
-phased-kept cycle raster my enable yexp h =
-    at-cycle (happens mcLoad cycle) (fine-load raster my enable)
-    (at-cycle (happens secondPhase cycle) (fine-second raster my enable yexp)
-    (at-cycle (happens firstPhase cycle) (fine-first raster my enable yexp)
+phased-kept k cycle raster my enable yexp h =
+    at-cycle (happens (mcLoad k) cycle) (fine-load raster my enable)
+    (at-cycle (happens (secondPhase k) cycle) (fine-second raster my enable yexp)
+    (at-cycle (happens (firstPhase k) cycle) (fine-first raster my enable yexp)
     (at-cycle (happens mcbaseStep cycle) fine-mcbase h)))
 
-slot-kept : (cycle k : ℕ) {s : Sprites} → FineSprites s → FineSprites (slotMoved cycle k s)
+slot-kept : (pointing fetching : Bool) (n : ℕ) {s : Sprites} → FineSprites s → FineSprites (slotMoved pointing fetching n s)
 unfolding slotMoved
-slot-kept cycle k h = either FineSprites (pointerTime cycle) (fine-fetched k 1 h) (either FineSprites (dataTime cycle) (fine-fetched k 2 h) h)
+slot-kept pointing fetching n h = either FineSprites pointing (fine-fetched n 1 h) (either FineSprites fetching (fine-fetched n 2 h) h)
 
 bus-aec : (b : Bus) (asked : Bool) → Counted (b .aec) → Counted (arbitrated (clocked 1 b) asked .aec)
 bus-aec b asked h = rw (arbitrated-aec (clocked 1 b) asked, clocked-aec b) (aec-kept (b .aec) asked h)
@@ -53,13 +54,18 @@ bus-clock : (b : Bus) (asked : Bool) → arbitrated (clocked 1 b) asked .clock �
 bus-clock b asked = arbitrated-clock (clocked 1 b) asked ∙ clocked-clock b
 
 module _ (g : Controls) (s : Side) where
-  pub side-cycle : turned g s .side .beam .cycle ≡ nextCycle (s .beam .cycle)
+  -- no tick changes the kind
+  pub side-kind : turned g s .side .beam .kind ≡ s .beam .kind
+  unfolding turned
+  side-kind = turned-kind (s .beam) _ _ _ _ _ _ _ _
+
+  pub side-cycle : turned g s .side .beam .cycle ≡ nextCycle (kindOf (s .beam .kind)) (s .beam .cycle)
   unfolding turned
   side-cycle = turned-cycle (s .beam) _ _ _ _ _ _ _ _
 
   -- what the line and the frame do in the tick
   abbrev pub sweep : Swept
-  sweep = swept (s .frame) (s .irq) (nextCycle (s .beam .cycle)) (s .beam .raster) (g .compare) (g .den) (s .beam .latch)
+  sweep = swept (kindOf (s .beam .kind)) (s .frame) (s .irq) (nextCycle (kindOf (s .beam .kind)) (s .beam .cycle)) (s .beam .raster) (g .compare) (g .den) (s .beam .latch)
 
   pub side-raster : turned g s .side .beam .raster ≡ sweep .raster
   unfolding turned
@@ -80,13 +86,15 @@ module _ (g : Controls) (s : Side) where
   pub side-kept : FineSide s → canTick (s .bus .clock) → FineSide (turned g s .side)
   unfolding turned
   side-kept h t =
+      let k = kindOf (s .beam .kind) in
       record {
-        first = subst (λ (n : ℕ). 1 ≤ n) (sym side-cycle) (cycle-low (s .beam .cycle));
-        last = subst (λ (n : ℕ). n ≤ lastCycle) (sym side-cycle) (cycle-high (s .beam .cycle));
-        raster = subst (λ (n : ℕ). n ≤ lastLine) (sym (turned-raster (s .beam) _ _ _ _ _ _ _ _)) (raster-kept (s .frame) (s .irq) _ (s .beam .raster) _ _ _ (h .raster));
+        kind = rw side-kind (h .kind);
+        first = subst (λ (n : ℕ). 1 ≤ n) (sym side-cycle) (cycle-low k (s .beam .cycle));
+        last = rw side-kind (subst (λ (n : ℕ). n ≤ lastCycle k) (sym side-cycle) (cycle-high k (s .beam .cycle)));
+        raster = rw side-kind (subst (λ (n : ℕ). n ≤ lastLine k) (sym side-raster) (raster-kept k (s .frame) (s .irq) _ (s .beam .raster) _ _ _ (h .raster)));
         aec = bus-aec (s .bus) _ (h .aec);
-        rows = subst (λ (n : ℕ). FineRows n (turned g s .side .rows)) (sym side-cycle) (rows-kept (s .beam .cycle) _ _ _ (s .rows) (h .last) (h .rows));
-        sprites = slot-kept _ _ (phased-kept _ _ _ _ _ (h .sprites));
+        rows = subst (λ (n : ℕ). FineRows n (turned g s .side .rows)) (sym side-cycle) (rows-kept k (s .beam .cycle) _ _ _ (s .rows) (h .last) (h .rows));
+        sprites = slot-kept _ _ _ (phased-kept k _ _ _ _ _ (h .sprites));
         place = pending-small _ _ (s .pending) (h .place);
         clock = rw (bus-clock (s .bus) _) (clock-on-range (s .bus .clock) t);
       }
@@ -105,6 +113,7 @@ pub side-same : {s t : Side}
     → FineSide t
 side-same beam bus vc vcbase rc vmli sprites place h =
     record {
+      kind = rw beam (h .kind);
       first = rw beam (h .first);
       last = rw beam (h .last);
       raster = rw beam (h .raster);
@@ -115,13 +124,14 @@ side-same beam bus vc vcbase rc vmli sprites place h =
       clock = rw bus (h .clock);
     }
 
-pub fresh-fine : FineSide freshSide
+pub fresh-fine : (kind : ℕ) → known kind ≡ true → FineSide (freshSide kind)
 unfolding freshSide
-fresh-fine =
+fresh-fine kind e =
     record {
-      first = omega (arith, fresh-cycle);
-      last = omega (arith, fresh-cycle);
-      raster = omega (arith, fresh-raster);
+      kind = rw (fresh-kind kind) e;
+      first = omega (arith, fresh-cycle kind, last-least (kindOf kind));
+      last = rw (fresh-kind kind) (omega (arith, fresh-cycle kind));
+      raster = rw (fresh-kind kind) (omega (arith, fresh-raster kind));
       aec = fresh-aec;
       rows = Rows.fresh-fine _;
       sprites = fine-fresh;

@@ -1,7 +1,9 @@
--- What holds of an accepted state's timing side (01, States we accept).
+-- What holds of an accepted state's timing side (01, States we accept; 02 (iv)).
 use Prim.Native.Nat.{ℕ, _≤_}
+use mathlib.Core.Path.{_≡_}
+use mathlib.Core.Bool.{true}
 use Rattle.laws.specs.Clock.{inRange}
-use Rattle.schedule.specs.Kind.{lastCycle, lastLine}
+use Rattle.schedule.specs.Kind.{known, kindOf, lastCycle, lastLine}
 use Rattle.sprites.specs.Fine.{FineSprites}
 use Rattle.arbitration.specs.Bus.{Counted}
 use Rattle.rows.specs.Pending.{Pends}
@@ -9,9 +11,10 @@ use Rattle.rows.specs.Fine.{FineRows}
 use Rattle.side.specs.declared.Side.{Side}
 
 pub record FineSide (s : Side) : Type 0 where
+  pub kind : known (s .beam .kind) ≡ true
   pub first : 1 ≤ s .beam .cycle
-  pub last : s .beam .cycle ≤ lastCycle
-  pub raster : s .beam .raster ≤ lastLine
+  pub last : s .beam .cycle ≤ lastCycle (kindOf (s .beam .kind))
+  pub raster : s .beam .raster ≤ lastLine (kindOf (s .beam .kind))
   pub aec : Counted (s .bus .aec)
   pub rows : FineRows (s .beam .cycle) (s .rows)
   pub sprites : FineSprites (s .sprites)

@@ -2,7 +2,8 @@
 use Prim.Native.Nat.{ℕ}
 use mathlib.Core.Bool.{Bool, cond}
 use mathlib.Core.List.{List}
-use Rattle.schedule.specs.Diagram.{happens, lineBegins, left40, left38, right38, right40, mainRemembered, lineEnds, mcbaseStep, firstPhase, secondPhase, mcLoad, pointerTime, dataTime}
+use Rattle.schedule.specs.Kind.{Kind}
+use Rattle.schedule.specs.Diagram.{happens, lineBegins, left40, left38, right38, right40, mainRemembered, lineEnds, mcbaseStep, firstPhase, secondPhase, mcLoad}
 use Rattle.border.specs.Border as B
 use Rattle.border.specs.declared.Border.{Border}
 use Rattle.sprites.specs.Sprites.{mcbaseStepped, firstPhased, secondPhased, mcLoaded, fetched}
@@ -26,13 +27,13 @@ right40At cycle csel b = cond (happens right40 cycle) (B.right40Passed b csel) b
 unfoldable pub rememberAt : ℕ → Border → Border
 rememberAt cycle b = cond (happens mainRemembered cycle) (B.remembered b) b
 
-unfoldable pub endAt : ℕ → ℕ → Bool → Border → Border
-endAt cycle raster den b = cond (happens lineEnds cycle) (B.lineEnded b raster den) b
+unfoldable pub endAt : Kind → ℕ → ℕ → Bool → Border → Border
+endAt k cycle raster den b = cond (happens (lineEnds k) cycle) (B.lineEnded b raster den) b
 
 -- DECISIONS 23: the main border is remembered after that cycle's left compare
-unfoldable pub bordered : ℕ → ℕ → Bool → Bool → Border → Border
-bordered cycle raster den csel b =
-    endAt cycle raster den
+unfoldable pub bordered : Kind → ℕ → ℕ → Bool → Bool → Border → Border
+bordered k cycle raster den csel b =
+    endAt k cycle raster den
     (rememberAt cycle
     (right40At cycle csel
     (right38At cycle csel
@@ -43,22 +44,22 @@ bordered cycle raster den csel b =
 unfoldable pub stepAt : ℕ → Sprites → Sprites
 stepAt cycle s = cond (happens mcbaseStep cycle) (mcbaseStepped s) s
 
-unfoldable pub firstAt : ℕ → ℕ → List ℕ → ℕ → ℕ → Sprites → Sprites
-firstAt cycle raster my enable yexp s = cond (happens firstPhase cycle) (firstPhased raster my enable yexp s) s
+unfoldable pub firstAt : Kind → ℕ → ℕ → List ℕ → ℕ → ℕ → Sprites → Sprites
+firstAt k cycle raster my enable yexp s = cond (happens (firstPhase k) cycle) (firstPhased raster my enable yexp s) s
 
-unfoldable pub secondAt : ℕ → ℕ → List ℕ → ℕ → ℕ → Sprites → Sprites
-secondAt cycle raster my enable yexp s = cond (happens secondPhase cycle) (secondPhased raster my enable yexp s) s
+unfoldable pub secondAt : Kind → ℕ → ℕ → List ℕ → ℕ → ℕ → Sprites → Sprites
+secondAt k cycle raster my enable yexp s = cond (happens (secondPhase k) cycle) (secondPhased raster my enable yexp s) s
 
-unfoldable pub loadAt : ℕ → ℕ → List ℕ → ℕ → Sprites → Sprites
-loadAt cycle raster my enable s = cond (happens mcLoad cycle) (mcLoaded raster my enable s) s
+unfoldable pub loadAt : Kind → ℕ → ℕ → List ℕ → ℕ → Sprites → Sprites
+loadAt k cycle raster my enable s = cond (happens (mcLoad k) cycle) (mcLoaded raster my enable s) s
 
-unfoldable pub phased : ℕ → ℕ → List ℕ → ℕ → ℕ → Sprites → Sprites
-phased cycle raster my enable yexp s =
-    loadAt cycle raster my enable
-    (secondAt cycle raster my enable yexp
-    (firstAt cycle raster my enable yexp
+unfoldable pub phased : Kind → ℕ → ℕ → List ℕ → ℕ → ℕ → Sprites → Sprites
+phased k cycle raster my enable yexp s =
+    loadAt k cycle raster my enable
+    (secondAt k cycle raster my enable yexp
+    (firstAt k cycle raster my enable yexp
     (stepAt cycle s)))
 
--- Bauer 3.8.1 rule 5: one byte beside the pointer, two in the cycle after it
-unfoldable pub slotMoved : ℕ → ℕ → Sprites → Sprites
-slotMoved cycle k s = cond (pointerTime cycle) (fetched k 1 s) (cond (dataTime cycle) (fetched k 2 s) s)
+-- Bauer 3.8.1 rule 5: sprite n's slot, one byte beside the pointer, two in the cycle after it
+unfoldable pub slotMoved : Bool → Bool → ℕ → Sprites → Sprites
+slotMoved pointing fetching n s = cond pointing (fetched n 1 s) (cond fetching (fetched n 2 s) s)

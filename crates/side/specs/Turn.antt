@@ -1,9 +1,12 @@
 -- One tick of the timing side: each part has its step's number of 01's list, and stands after the parts that it reads. No picture value is in sight.
+use Prim.Native.Nat.{ℕ}
 use mathlib.Core.Bool.{Bool, false, not, _&&_, _||_}
 use lib.Dec.{eqb}
 use Rattle.laws.specs.Bits.{hasBit}
 use Rattle.laws.specs.Pick.{pick}
+use Rattle.schedule.specs.Kind.{kindOf}
 use Rattle.schedule.specs.Diagram.{pointerTime, dataTime, slotSprite, slotAfterBus}
+use Rattle.schedule.specs.Requests.{maskAt}
 use Rattle.registers.specs.declared.Controls.{Controls}
 use Rattle.registers.specs.Irq.{quiet}
 use Rattle.timing.specs.Beam.{nextCycle, beamTurned}
@@ -22,12 +25,12 @@ use Rattle.side.specs.declared.Side.{Side}
 use Rattle.side.specs.declared.Turned.{Turned}
 use Rattle.side.specs.Phases.{bordered, phased, slotMoved}
 
--- 01, power-up: the parts' own values
-unfoldable pub freshSide : Side
-freshSide =
+-- 01, power-up: the parts' own values; 02 (iv): the beam's by the kind
+unfoldable pub freshSide : ℕ → Side
+freshSide kind =
     record {
       irq = quiet;
-      beam = Beams.fresh;
+      beam = Beams.fresh kind;
       frame = Frames.fresh;
       border = Borders.fresh;
       sprites = allFresh;
@@ -39,20 +42,23 @@ freshSide =
 
 unfoldable pub turned : Controls → Side → Turned
 turned g s =
+    let k = kindOf (s .beam .kind) in
     -- tick 1: cycle +1
-    let cycle = nextCycle (s .beam .cycle) in
+    let cycle = nextCycle k (s .beam .cycle) in
     -- tick 3 and 4: a line begins, a frame ends
-    let sweep = swept (s .frame) (s .irq) cycle (s .beam .raster) (g .compare) (g .den) (s .beam .latch) in
+    let sweep = swept k (s .frame) (s .irq) cycle (s .beam .raster) (g .compare) (g .den) (s .beam .latch) in
     let raster = sweep .raster in
     -- tick 1 to 4: the beam, with the live bad line
     let beam = beamTurned (s .beam) cycle (sweep .line) (sweep .latch) (sweep .kept) raster (g .den) (g .rsel) (g .yscroll) in
     -- tick 3, 7, 8 and 9: the border's compares, the sprites' phases
-    let border = bordered cycle raster (g .den) (g .csel) (s .border) in
-    let sprites = phased cycle raster (g .my) (g .enable) (g .yexp) (s .sprites) in
+    let border = bordered k cycle raster (g .den) (g .csel) (s .border) in
+    let sprites = phased k cycle raster (g .my) (g .enable) (g .yexp) (s .sprites) in
     -- tick 8: arbitration, at the clock of tick 1
-    let bus = arbitrated (clocked 1 (s .bus)) (requested (beam .ba) (sprites .dma) cycle) in
+    let bus = arbitrated (clocked 1 (s .bus)) (requested (beam .ba) (sprites .dma) (maskAt k cycle)) in
     -- tick 5: the slot of this cycle
-    let k = slotSprite cycle in
+    let n = slotSprite k cycle in
+    let pointing = pointerTime k cycle in
+    let fetching = dataTime k cycle in
     -- tick 8: the row counters
     let now = rowed cycle (beam .bad) (beam .rising) (sweep .wraps) (s .rows) in
     record {
@@ -61,7 +67,7 @@ turned g s =
         beam = beam;
         frame = sweep .frame;
         border = border;
-        sprites = slotMoved cycle k sprites;
+        sprites = slotMoved pointing fetching n sprites;
         bus = bus;
         rows = now .rows;
         pending = pendingAfter (now .fetches && not (bus .aeclow)) (now .rows .vmli) (s .pending);
@@ -81,13 +87,13 @@ turned g s =
         fills = now .fetches && bus .aeclow;
         place = now .rows .vmli;
         column = now .rows .vc;
-        sprite = k;
-        pointing = pointerTime cycle;
-        fetching = dataTime cycle;
-        mask = hasBit (sprites .dma) k;
-        flag = spriteAt sprites k .dma;
-        mc = spriteAt sprites k .mc;
+        sprite = n;
+        pointing = pointing;
+        fetching = fetching;
+        mask = hasBit (sprites .dma) n;
+        flag = spriteAt sprites n .dma;
+        mc = spriteAt sprites n .mc;
         -- tick 5 and 8: most slots come before their cycle's arbitration
-        low = pick (slotAfterBus cycle) (bus .aeclow) (s .bus .aeclow);
+        low = pick (slotAfterBus k cycle) (bus .aeclow) (s .bus .aeclow);
       };
     }

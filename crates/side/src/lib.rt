@@ -3,8 +3,11 @@ ghost use mathlib.Core.Path.{_≡_};
 ghost use mathlib.Core.Bool.{Bool};
 ghost use Prim.Native.Nat.{_<_};
 ghost use Rattle.laws.specs.Clock.{inRange};
+ghost use Rattle.schedule.specs.Kind.{kindOf};
 ghost use Rattle.schedule.specs.Diagram.{happens, graphicsAccess};
-ghost use Rattle.timing.specs.Beam.{nextCycle};
+ghost use Rattle.schedule.specs.Requests.{maskAt};
+ghost use Rattle.schedule.specs.Machinery.Places.{Placed};
+ghost use Rattle.schedule.specs.Machinery.Stretches.{beforeGraphics};
 ghost use Rattle.arbitration.specs.Bus.{requested};
 ghost use Rattle.side.specs.Phases.{beginAt, left40At, left38At, right38At, right40At, rememberAt, endAt, bordered, stepAt, firstAt, secondAt, loadAt, phased, slotMoved};
 ghost use Rattle.side.specs.Turn.{freshSide, turned};
@@ -117,56 +120,56 @@ fn border_remember(b: Border, cycle: u16) -> Border
     b
 }
 
-fn border_end(b: Border, cycle: u16, raster: u16, den: bool) -> Border
-    ensures { λ r. ⌜ r ≡ endAt cycle raster den b ⌝ }
+fn border_end(b: Border, kind: u8, cycle: u16, raster: u16, den: bool) -> Border
+    ensures { λ r. ⌜ r ≡ endAt (kindOf kind) cycle raster den b ⌝ }
 {
-    if schedule::line_ends(cycle) {
+    if schedule::line_ends(kind, cycle) {
         return b.line_end(raster, den);
     }
     b
 }
 
 // The left compares, up to cycle 18.
-fn border_left(b: Border, cycle: u16, raster: u16, den: bool, csel: bool) -> Border
+fn border_left(b: Border, kind: u8, cycle: u16, raster: u16, den: bool, csel: bool) -> Border
     requires { ⌜ happens graphicsAccess cycle ≡ Bool.true ⌝ }
-    ensures { λ r. ⌜ r ≡ bordered cycle raster den csel b ⌝ }
+    ensures { λ r. ⌜ r ≡ bordered (kindOf kind) cycle raster den csel b ⌝ }
 {
     let wide = border_left40(b, cycle, raster, den, csel);
     let narrow = border_left38(wide, cycle, raster, den, csel);
     border_remember(narrow, cycle)
 }
 
-fn border_lit(b: Border, cycle: u16, raster: u16, den: bool, csel: bool) -> Border
+fn border_lit(b: Border, kind: u8, cycle: u16, raster: u16, den: bool, csel: bool) -> Border
     requires { ⌜ happens graphicsAccess cycle ≡ Bool.true ⌝ }
-    ensures { λ r. ⌜ r ≡ bordered cycle raster den csel b ⌝ }
+    ensures { λ r. ⌜ r ≡ bordered (kindOf kind) cycle raster den csel b ⌝ }
 {
     let past = schedule::past(cycle);
     if past {
         return b;
     }
-    border_left(b, cycle, raster, den, csel)
+    border_left(b, kind, cycle, raster, den, csel)
 }
 
-// The compares of a line's ends, in the cycles 1, 56, 57 and 63.
-fn border_ends(b: Border, cycle: u16, raster: u16, den: bool, csel: bool) -> Border
-    requires { ⌜ cycle < 64 ⌝ ∗ ⌜ happens graphicsAccess cycle ≡ Bool.false ⌝ }
-    ensures { λ r. ⌜ r ≡ bordered cycle raster den csel b ⌝ }
+// The compares of a line's ends, in the cycles 1, 56 and 57 and in the last.
+fn border_ends(b: Border, kind: u8, cycle: u16, raster: u16, den: bool, csel: bool) -> Border
+    requires { ⌜ cycle < 66 ⌝ ∗ ⌜ happens graphicsAccess cycle ≡ Bool.false ⌝ }
+    ensures { λ r. ⌜ r ≡ bordered (kindOf kind) cycle raster den csel b ⌝ }
 {
     let begun = border_begin(b, cycle, raster, den);
     let early = border_right38(begun, cycle, csel);
     let late = border_right40(early, cycle, csel);
-    border_end(late, cycle, raster, den)
+    border_end(late, kind, cycle, raster, den)
 }
 
-fn border_dark(b: Border, cycle: u16, raster: u16, den: bool, csel: bool) -> Border
-    requires { ⌜ cycle < 64 ⌝ ∗ ⌜ happens graphicsAccess cycle ≡ Bool.false ⌝ }
-    ensures { λ r. ⌜ r ≡ bordered cycle raster den csel b ⌝ }
+fn border_dark(b: Border, kind: u8, cycle: u16, raster: u16, den: bool, csel: bool) -> Border
+    requires { ⌜ cycle < 66 ⌝ ∗ ⌜ happens graphicsAccess cycle ≡ Bool.false ⌝ }
+    ensures { λ r. ⌜ r ≡ bordered (kindOf kind) cycle raster den csel b ⌝ }
 {
     let still = schedule::between(cycle);
     if still {
         return b;
     }
-    border_ends(b, cycle, raster, den, csel)
+    border_ends(b, kind, cycle, raster, den, csel)
 }
 
 // ---- the sprites' phases, each in its cycle
@@ -180,95 +183,138 @@ fn sprites_step(s: Sprites, cycle: u16) -> Sprites
     s
 }
 
-fn sprites_first(s: Sprites, cycle: u16, raster: u16, my: [u8; 8], enable: u8, yexp: u8) -> Sprites
-    ensures { λ r. ⌜ r ≡ firstAt cycle raster my enable yexp s ⌝ }
+fn sprites_first(
+    s: Sprites,
+    kind: u8,
+    cycle: u16,
+    raster: u16,
+    my: [u8; 8],
+    enable: u8,
+    yexp: u8,
+) -> Sprites
+    ensures { λ r. ⌜ r ≡ firstAt (kindOf kind) cycle raster my enable yexp s ⌝ }
 {
-    if schedule::first_phase(cycle) {
+    if schedule::first_phase(kind, cycle) {
         return s.first_phase(raster, my, enable, yexp);
     }
     s
 }
 
-fn sprites_second(s: Sprites, cycle: u16, raster: u16, my: [u8; 8], enable: u8, yexp: u8) -> Sprites
-    ensures { λ r. ⌜ r ≡ secondAt cycle raster my enable yexp s ⌝ }
+fn sprites_second(
+    s: Sprites,
+    kind: u8,
+    cycle: u16,
+    raster: u16,
+    my: [u8; 8],
+    enable: u8,
+    yexp: u8,
+) -> Sprites
+    ensures { λ r. ⌜ r ≡ secondAt (kindOf kind) cycle raster my enable yexp s ⌝ }
 {
-    if schedule::second_phase(cycle) {
+    if schedule::second_phase(kind, cycle) {
         return s.second_phase(raster, my, enable, yexp);
     }
     s
 }
 
-fn sprites_load(s: Sprites, cycle: u16, raster: u16, my: [u8; 8], enable: u8) -> Sprites
-    ensures { λ r. ⌜ r ≡ loadAt cycle raster my enable s ⌝ }
+fn sprites_load(s: Sprites, kind: u8, cycle: u16, raster: u16, my: [u8; 8], enable: u8) -> Sprites
+    ensures { λ r. ⌜ r ≡ loadAt (kindOf kind) cycle raster my enable s ⌝ }
 {
-    if schedule::mc_load(cycle) {
+    if schedule::mc_load(kind, cycle) {
         return s.load_mc(raster, my, enable);
     }
     s
 }
 
-fn sprites_lit(s: Sprites, cycle: u16, raster: u16, my: [u8; 8], enable: u8, yexp: u8) -> Sprites
+// The step of MCBASE; where the last graphics access is, the 6569 has its first phase.
+fn sprites_lit(
+    s: Sprites,
+    kind: u8,
+    cycle: u16,
+    raster: u16,
+    my: [u8; 8],
+    enable: u8,
+    yexp: u8,
+) -> Sprites
     requires { ⌜ happens graphicsAccess cycle ≡ Bool.true ⌝ }
-    ensures { λ r. ⌜ r ≡ phased cycle raster my enable yexp s ⌝ }
+    ensures { λ r. ⌜ r ≡ phased (kindOf kind) cycle raster my enable yexp s ⌝ }
 {
     let stepped = sprites_step(s, cycle);
-    sprites_first(stepped, cycle, raster, my, enable, yexp)
+    sprites_first(stepped, kind, cycle, raster, my, enable, yexp)
 }
 
-// The phases of a line's end, in the cycles 56 and 58.
-fn sprites_ends(s: Sprites, cycle: u16, raster: u16, my: [u8; 8], enable: u8, yexp: u8) -> Sprites
-    requires { ⌜ cycle < 64 ⌝ ∗ ⌜ happens graphicsAccess cycle ≡ Bool.false ⌝ }
-    ensures { λ r. ⌜ r ≡ phased cycle raster my enable yexp s ⌝ }
+// The phases of a line's end.
+fn sprites_ends(
+    s: Sprites,
+    kind: u8,
+    cycle: u16,
+    raster: u16,
+    my: [u8; 8],
+    enable: u8,
+    yexp: u8,
+) -> Sprites
+    requires { ⌜ cycle < 66 ⌝ ∗ ⌜ happens graphicsAccess cycle ≡ Bool.false ⌝ }
+    ensures { λ r. ⌜ r ≡ phased (kindOf kind) cycle raster my enable yexp s ⌝ }
 {
-    let second = sprites_second(s, cycle, raster, my, enable, yexp);
-    sprites_load(second, cycle, raster, my, enable)
+    let first = sprites_first(s, kind, cycle, raster, my, enable, yexp);
+    let second = sprites_second(first, kind, cycle, raster, my, enable, yexp);
+    sprites_load(second, kind, cycle, raster, my, enable)
 }
 
-fn sprites_dark(s: Sprites, cycle: u16, raster: u16, my: [u8; 8], enable: u8, yexp: u8) -> Sprites
-    requires { ⌜ cycle < 64 ⌝ ∗ ⌜ happens graphicsAccess cycle ≡ Bool.false ⌝ }
-    ensures { λ r. ⌜ r ≡ phased cycle raster my enable yexp s ⌝ }
+fn sprites_dark(
+    s: Sprites,
+    kind: u8,
+    cycle: u16,
+    place: u16,
+    raster: u16,
+    my: [u8; 8],
+    enable: u8,
+    yexp: u8,
+) -> Sprites
+    requires { ⌜ Placed (kindOf kind) cycle place ⌝ ∗ ⌜ happens graphicsAccess cycle ≡ Bool.false ⌝ }
+    ensures { λ r. ⌜ r ≡ phased (kindOf kind) cycle raster my enable yexp s ⌝ }
 {
-    let still = schedule::calm(cycle);
+    let still = schedule::calm(place);
     if still {
         return s;
     }
-    sprites_ends(s, cycle, raster, my, enable, yexp)
+    sprites_ends(s, kind, cycle, raster, my, enable, yexp)
 }
 
 // The slot of this cycle moves its sprite's MC on: one byte beside the pointer, two in the data slot.
-fn sprites_slot(s: Sprites, cycle: u16, k: usize) -> Sprites
+fn sprites_slot(s: Sprites, pointing: bool, fetching: bool, k: usize) -> Sprites
     requires { ⌜ k < 8 ⌝ }
-    ensures { λ r. ⌜ r ≡ slotMoved cycle k s ⌝ }
+    ensures { λ r. ⌜ r ≡ slotMoved pointing fetching k s ⌝ }
 {
-    if schedule::pointer_time(cycle) {
+    if pointing {
         return s.fetch(k, 1);
     }
-    if schedule::data_time(cycle) {
+    if fetching {
         return s.fetch(k, 2);
     }
     s
 }
 
 // The request of a cycle with a graphics access: no sprite asks before the last one.
-fn asked_lit(ba: bool, dma: u8, cycle: u16) -> bool
+fn asked_lit(ba: bool, dma: u8, kind: u8, cycle: u16) -> bool
     requires { ⌜ happens graphicsAccess cycle ≡ Bool.true ⌝ }
-    ensures { λ r. ⌜ r ≡ requested ba dma cycle ⌝ }
+    ensures { λ r. ⌜ r ≡ requested ba dma (maskAt (kindOf kind) cycle) ⌝ }
 {
     let early = schedule::early(cycle);
     if early {
         return !ba;
     }
-    arbitration::request(ba, dma, cycle)
+    arbitration::request(ba, dma, schedule::mask(kind, cycle))
 }
 
 // ---- the whole step
 
 impl Side {
-    pub fn new() -> Self
-        ensures { λ r. ⌜ r ≡ freshSide ⌝ }
+    pub fn new(kind: u8) -> Self
+        ensures { λ r. ⌜ r ≡ freshSide kind ⌝ }
     {
         let irq = Irq::new();
-        let beam = Beam::new();
+        let beam = Beam::new(kind);
         let frame = Frame::new();
         let border = Border::new();
         let sprites = Sprites::new();
@@ -293,15 +339,8 @@ impl Side {
 
 // ---- a line's two parts: the cycles with a graphics access, and the others
 
-// Whether the next tick has a graphics access.
-pub fn is_lit(cycle: u16) -> bool
-    ensures { λ r. ⌜ r ≡ happens graphicsAccess (nextCycle cycle) ⌝ }
-{
-    schedule::graphics_access(timing::next_cycle(cycle))
-}
-
 pub fn turn_lit(side: Side, g: Controls) -> Turned
-    requires { ⌜ inRange (side .bus .clock) ⌝ ∗ ⌜ happens graphicsAccess (nextCycle (side .beam .cycle)) ≡ Bool.true ⌝ }
+    requires { ⌜ inRange (side .bus .clock) ⌝ ∗ ⌜ beforeGraphics (side .beam .cycle) ≡ Bool.true ⌝ }
     ensures { λ r. ⌜ r ≡ turned g side ⌝ }
 {
     let beam0 = side.beam;
@@ -314,11 +353,11 @@ pub fn turn_lit(side: Side, g: Controls) -> Turned
     let bus0 = side.bus;
     let my = g.my;
     let clocked = bus0.clocked(1);
-    let cycle = timing::next_cycle(beam0.cycle);
+    let cycle = beam0.cycle + 1;
     let raster = beam0.raster;
     let latch = timing::latched(false, raster, g.den, beam0.latch);
-    let border = border_lit(border0, cycle, raster, g.den, g.csel);
-    let phased = sprites_lit(sprites0, cycle, raster, my, g.enable, g.yexp);
+    let border = border_lit(border0, beam0.kind, cycle, raster, g.den, g.csel);
+    let phased = sprites_lit(sprites0, beam0.kind, cycle, raster, my, g.enable, g.yexp);
     let beam = beam0.turn(
         cycle,
         raster,
@@ -329,7 +368,7 @@ pub fn turn_lit(side: Side, g: Controls) -> Turned
         g.rsel,
         g.yscroll,
     );
-    let asked = asked_lit(beam.ba, phased.dma, cycle);
+    let asked = asked_lit(beam.ba, phased.dma, beam0.kind, cycle);
     let bus = clocked.arbitrate(asked);
     let sprite = phased.at(0);
     let mask = laws::has_bit(phased.dma, 0);
@@ -375,7 +414,7 @@ pub fn turn_lit(side: Side, g: Controls) -> Turned
 }
 
 pub fn turn_dark(side: Side, g: Controls) -> Turned
-    requires { ⌜ inRange (side .bus .clock) ⌝ ∗ ⌜ happens graphicsAccess (nextCycle (side .beam .cycle)) ≡ Bool.false ⌝ }
+    requires { ⌜ inRange (side .bus .clock) ⌝ ∗ ⌜ beforeGraphics (side .beam .cycle) ≡ Bool.false ⌝ }
     ensures { λ r. ⌜ r ≡ turned g side ⌝ }
 {
     let beam0 = side.beam;
@@ -388,8 +427,11 @@ pub fn turn_dark(side: Side, g: Controls) -> Turned
     let bus0 = side.bus;
     let my = g.my;
     let clocked = bus0.clocked(1);
-    let cycle = timing::next_cycle(beam0.cycle);
+    let kind = beam0.kind;
+    let cycle = timing::next_cycle(kind, beam0.cycle);
+    let place = schedule::place(kind, cycle);
     let swept = raster::turn(
+        kind,
         frame0,
         irq0,
         cycle,
@@ -401,8 +443,8 @@ pub fn turn_dark(side: Side, g: Controls) -> Turned
     let irq = swept.irq;
     let frame = swept.frame;
     let raster = swept.raster;
-    let border = border_dark(border0, cycle, raster, g.den, g.csel);
-    let phased = sprites_dark(sprites0, cycle, raster, my, g.enable, g.yexp);
+    let border = border_dark(border0, kind, cycle, raster, g.den, g.csel);
+    let phased = sprites_dark(sprites0, kind, cycle, place, raster, my, g.enable, g.yexp);
     let beam = beam0.turn(
         cycle,
         swept.line,
@@ -413,16 +455,17 @@ pub fn turn_dark(side: Side, g: Controls) -> Turned
         g.rsel,
         g.yscroll,
     );
-    let asked = arbitration::request(beam.ba, phased.dma, cycle);
+    let asking = schedule::asking(place);
+    let asked = arbitration::request(beam.ba, phased.dma, asking);
     let bus = clocked.arbitrate(asked);
-    let k = schedule::slot_sprite(cycle);
+    let k = schedule::sprite_at(place);
+    let pointing = schedule::pointing(place);
+    let fetching = schedule::fetching(place);
     let sprite = phased.at(k);
     let mask = laws::has_bit(phased.dma, k);
-    let sprites = sprites_slot(phased, cycle, k);
-    let after = schedule::slot_after_bus(cycle);
+    let sprites = sprites_slot(phased, pointing, fetching, k);
+    let after = schedule::slot_after_bus(kind, cycle);
     let low = laws::pick_bool(after, bus.aeclow, bus0.aeclow);
-    let pointing = schedule::pointer_time(cycle);
-    let fetching = schedule::data_time(cycle);
     let rowed = rows::turn_dark(rows0, cycle, beam.bad, beam.rising, swept.wraps);
     let rows = rowed.rows;
     let pending = rows::next_pending(rowed.fetches & !bus.aeclow, rows.vmli, pending0);
@@ -479,7 +522,7 @@ pub fn only_counts(side: Side, yscroll: u8) -> bool
 
 // Some such ticks on.
 pub fn leap(mut side: Side, k: u8) -> Side
-    requires { ⌜ inRange (side .bus .clock) ⌝ ∗ ⌜ side .beam .cycle < 64 ⌝ }
+    requires { ⌜ inRange (side .bus .clock) ⌝ ∗ ⌜ side .beam .cycle < 66 ⌝ }
     ensures { λ r. ⌜ r ≡ leapt k side ⌝ }
 {
     let mut beam = side.beam;

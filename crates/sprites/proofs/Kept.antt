@@ -12,6 +12,7 @@ use lib.ListN.{length, getD, length-set, List·getD-eq-default}
 use lib.Seq.{getD-set-same, getD-set-other}
 use Rattle.laws.specs.Bits.{hasBit}
 use Rattle.laws.proofs.Choice.{either, left, right}
+use Rattle.schedule.specs.Kind.{Kind}
 use Rattle.sprites.specs.declared.Sprite.{Sprite}
 use Rattle.sprites.specs.declared.Sprites.{Sprites}
 use Rattle.sprites.specs.Sprites.{fresh, allFresh, none, spriteAt, spriteAt≔, upTo, inEither, inBoth, crunched, nextBase, stepped, stepOne, mcbaseStepped, starts, dmaBegun, startOne, startAt, started, firstPhased, secondPhased, loadOne, loaded, showOne, showAt, shown, mcLoaded, expandWritten, fetches, fetched}
@@ -100,9 +101,9 @@ fine-load raster my enable h = over one 8 (as-each refl (over fine-load-one 8 h)
     one : (k : ℕ) (s : Sprites) → FineSprites s → FineSprites (showAt (raster % 256) my enable k s)
     one k s h = either FineSprites (hasBit (s .dma) k && hasBit enable k && eqb (getD my k 0) (raster % 256)) (as-each refl h) h
 
-pub fine-expand : (value cycle old : ℕ) {s : Sprites} → FineSprites s → FineSprites (expandWritten value cycle old s)
+pub fine-expand : (k : Kind) (value cycle old : ℕ) {s : Sprites} → FineSprites s → FineSprites (expandWritten k value cycle old s)
 unfolding expandWritten
-fine-expand value cycle old h = as-each refl h
+fine-expand k value cycle old h = as-each refl h
 
 pub fine-fetched : (k bytes : ℕ) {s : Sprites} → FineSprites s → FineSprites (fetched k bytes s)
 unfolding fetched

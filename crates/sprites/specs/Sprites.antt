@@ -6,6 +6,7 @@ use lib.Dec.{eqb}
 use lib.Bits.{bitAnd, bitOr, bitXor}
 use lib.ListN.{getD, set}
 use Rattle.laws.specs.Bits.{hasBit, withBit, withoutBit}
+use Rattle.schedule.specs.Kind.{Kind}
 use Rattle.schedule.specs.Diagram.{happens, crunch, firstPhase}
 use Rattle.sprites.specs.declared.Sprite.{Sprite}
 use Rattle.sprites.specs.declared.Sprites.{Sprites}
@@ -134,13 +135,13 @@ unfoldable pub clearAfter : ℕ → ℕ → ℕ → ℕ → ℕ
 clearAfter value cycle old flip = cond (happens crunch cycle) (255 - bitOr value flip) old
 
 -- DECISIONS 6: in the first DMA phase it stays set only where the old bit was set or the new one is clear
-unfoldable pub flipAfter : ℕ → ℕ → ℕ → ℕ → ℕ
-flipAfter value cycle old flip =
-    bitOr (cond (happens firstPhase cycle) (bitAnd flip (bitOr old (255 - value))) flip) (255 - value)
+unfoldable pub flipAfter : Kind → ℕ → ℕ → ℕ → ℕ → ℕ
+flipAfter k value cycle old flip =
+    bitOr (cond (happens (firstPhase k) cycle) (bitAnd flip (bitOr old (255 - value))) flip) (255 - value)
 
-unfoldable pub expandWritten : ℕ → ℕ → ℕ → Sprites → Sprites
-expandWritten value cycle old s =
-    flip≔ (flipAfter value cycle old (s .flip)) (clear≔ (clearAfter value cycle (s .clear) (s .flip)) s)
+unfoldable pub expandWritten : Kind → ℕ → ℕ → ℕ → Sprites → Sprites
+expandWritten k value cycle old s =
+    flip≔ (flipAfter k value cycle old (s .flip)) (clear≔ (clearAfter value cycle (s .clear) (s .flip)) s)
 
 -- A slot's bytes
 

@@ -2,6 +2,7 @@
 ghost use mathlib.Core.Path.{_≡_};
 ghost use mathlib.Core.Bool.{Bool};
 ghost use Prim.Native.Nat.{_<_, _≤_};
+ghost use Rattle.schedule.specs.Kind.{kindOf};
 ghost use Rattle.sprites.specs.Sprites.{fresh, allFresh, spriteAt, spriteAt≔, crunched, nextBase, stepped, stepOne, mcbaseStepped, dmaBegun, startOne, started, firstPhased, secondPhased, loadOne, loaded, showOne, shown, mcLoaded, clearAfter, flipAfter, expandWritten, fetched};
 ghost use Rattle.sprites.specs.Fine.{fineOne, fineTest};
 
@@ -268,11 +269,11 @@ impl Sprites {
     }
 
     // A write of the Y-expand register in a cycle; `old` is what the register held.
-    pub fn write_y_expand(mut self, value: u8, cycle: u16, old: u8) -> Self
-        ensures { λ r. ⌜ r ≡ expandWritten value cycle old self ⌝ }
+    pub fn write_y_expand(mut self, kind: u8, value: u8, cycle: u16, old: u8) -> Self
+        ensures { λ r. ⌜ r ≡ expandWritten (kindOf kind) value cycle old self ⌝ }
     {
         self.clear = clear_after(value, cycle, self.clear, self.flip);
-        self.flip = flip_after(value, cycle, old, self.flip);
+        self.flip = flip_after(kind, value, cycle, old, self.flip);
         self
     }
 
@@ -322,10 +323,10 @@ fn clear_after(value: u8, cycle: u16, old: u8, flip: u8) -> u8
     old
 }
 
-fn flip_after(value: u8, cycle: u16, old: u8, flip: u8) -> u8
-    ensures { λ r. ⌜ r ≡ flipAfter value cycle old flip ⌝ }
+fn flip_after(kind: u8, value: u8, cycle: u16, old: u8, flip: u8) -> u8
+    ensures { λ r. ⌜ r ≡ flipAfter (kindOf kind) value cycle old flip ⌝ }
 {
-    if schedule::first_phase(cycle) {
+    if schedule::first_phase(kind, cycle) {
         return (flip & (old | !value)) | !value;
     }
     flip | !value

@@ -32,40 +32,40 @@ stands out text after at next w h =
     ∙ ap (take (at + length text)) (w .text ∙ pasted-is text out at h)
     ∙ take-at (take at out ++ text) (drop (at + length text) out) (at + length text) long
 
-pub begun-at : (at : ℕ) (t : Tape) → t ≡ begunOf at → t .at ≡ at
+pub begun-at : (kind at : ℕ) (t : Tape) → t ≡ begunOf kind at → t .at ≡ at
 unfolding begunOf
-begun-at at t is = ap (λ (x : Tape). x .at) is
+begun-at kind at t is = ap (λ (x : Tape). x .at) is
 
-pub record Prints (s : List ℕ) (m : Store) (left : Store) (t : Tape) (out : List ℕ) : Type 0 where
+pub record Prints (kind : ℕ) (s : List ℕ) (m : Store) (left : Store) (t : Tape) (out : List ℕ) : Type 0 where
   pub earlier : List ℕ
   pub turns : ℕ
   pub enough : ahead s (t .run) ≤ turns
-  pub whole : (earlier ++ take (t .at) out) ++ toCome s turns left t ≡ dumpOf m s
-  pub run : played turns s left (t .run) .run ≡ playedOf m s .run
-  pub store : played turns s left (t .run) .store ≡ playedOf m s .store
+  pub whole : (earlier ++ take (t .at) out) ++ toCome s turns left t ≡ dumpOf kind m s
+  pub run : played turns s left (t .run) .run ≡ playedOf kind m s .run
+  pub store : played turns s left (t .run) .store ≡ playedOf kind m s .store
 
-module _ (s : List ℕ) (m : Store) where
+module _ (kind : ℕ) (s : List ℕ) (m : Store) where
   -- the declarations are there, and nothing is read
-  pub begins : (before out : List ℕ) (at : ℕ) (t : Tape) → at ≡ 0 + 292 → Written before 0 declarations out at → 292 ≤ length before → t ≡ begunOf at → Prints s m m t out
+  pub begins : (before out : List ℕ) (at : ℕ) (t : Tape) → at ≡ 0 + 292 → Written before 0 declarations out at → 292 ≤ length before → t ≡ begunOf kind at → Prints kind s m m t out
   unfolding begunOf driveBegun fill.ahead startOf playedOf dumpOf dumpText
   begins before out at t e w room is =
-      subst (λ (x : Tape). Prints s m m x out) (sym is) (record {
+      subst (λ (x : Tape). Prints kind s m m x out) (sym is) (record {
         earlier = [];
         turns = length s + 1;
         enough = omega arith;
         whole =
-            ap (λ (l : List ℕ). l ++ toCome s (length s + 1) m (begunOf at)) (stands before declarations out 0 at w (omega (arith, declarations-292)))
-            ∙ sym (append-assoc declarations (ticksText fresh (playedOf m s .records)) (playedOf m s .refusal));
+            ap (λ (l : List ℕ). l ++ toCome s (length s + 1) m (begunOf kind at)) (stands before declarations out 0 at w (omega (arith, declarations-292)))
+            ∙ sym (append-assoc declarations (ticksText fresh (playedOf kind m s .records)) (playedOf kind m s .refusal));
         run = refl;
         store = refl;
       })
 
-  module _ (left : Store) (t : Tape) (out : List ℕ) (was : Prints s m left t out) where
-    room : Prints s m left (roomed t) out
+  module _ (left : Store) (t : Tape) (out : List ℕ) (was : Prints kind s m left t out) where
+    room : Prints kind s m left (roomed t) out
     unfolding roomed
     room = by-room (leb (t .at) 65244)
       where
-        by-room : (b : Bool) → Prints s m left (cond b t (tape (t .run) (t .wave) 0)) out
+        by-room : (b : Bool) → Prints kind s m left (cond b t (tape (t .run) (t .wave) 0)) out
         by-room true = was
         by-room false =
             record {
@@ -97,7 +97,7 @@ module _ (s : List ℕ) (m : Store) where
       fewer : (n : ℕ) → ahead s (t .run) ≤ suc n → ahead s (x .run) ≤ n
       fewer n h = omega (arith, h, falls s left (t .run) going)
 
-      turned-by : (n : ℕ) → was .turns ≡ suc n → Prints s m next-left next after
+      turned-by : (n : ℕ) → was .turns ≡ suc n → Prints kind s m next-left next after
       turned-by n e =
           let before = was .earlier ++ take (t .at) out in
           let said = saidOn left t here in
@@ -127,11 +127,11 @@ module _ (s : List ℕ) (m : Store) where
                 ∙ was .store;
           }
 
-      by-turns : (n : ℕ) → was .turns ≡ n → Prints s m next-left next after
+      by-turns : (n : ℕ) → was .turns ≡ n → Prints kind s m next-left next after
       by-turns zero e = absurd (omega (arith, some s (t .run) (was .turns) going (was .enough), e))
       by-turns (suc n) e = turned-by n e
 
-      turned : Prints s m next-left next after
+      turned : Prints kind s m next-left next after
       turned = by-turns (was .turns) refl
 
       less : ahead s (next .run) < ahead s (t .run)
@@ -139,13 +139,13 @@ module _ (s : List ℕ) (m : Store) where
 
     -- the run is over: what it leaves, and the last of the dump
     module _ (done : t .run .going ≡ false) where
-      pub run-is : t .run ≡ playedOf m s .run
+      pub run-is : t .run ≡ playedOf kind m s .run
       run-is = ap (λ (p : Played). p .run) (sym (is-over s (was .turns) left (t .run) done)) ∙ was .run
 
-      pub store-is : left ≡ playedOf m s .store
+      pub store-is : left ≡ playedOf kind m s .store
       store-is = ap (λ (p : Played). p .store) (sym (is-over s (was .turns) left (t .run) done)) ∙ was .store
 
-      pub ends : Ends (dumpOf m s) out (t .at)
+      pub ends : Ends (dumpOf kind m s) out (t .at)
       ends =
           let here = was .earlier ++ take (t .at) out in
           record {
@@ -171,17 +171,17 @@ module _ (t roomy : Tape) (is-room : roomy ≡ roomed t) where
   run-room : roomy .run ≡ t .run
   run-room = ap (λ (x : Tape). x .run) is-room ∙ same-run t
 
-  module _ (s : List ℕ) (m left : Store) (out : List ℕ) (was : Prints s m left t out) (going : t .run .going ≡ true)
+  module _ (kind : ℕ) (s : List ℕ) (m left : Store) (out : List ℕ) (was : Prints kind s m left t out) (going : t .run .going ≡ true)
       (next : Tape) (after : List ℕ) (next-left : Store) (found : Found) (read : found ≡ nextOf s (roomy .run .cursor))
       (is : next ≡ tapeOn left roomy found) (w : Written out (roomy .at) (saidOn left roomy found) after (next .at)) (m-is : next-left ≡ storeAt left (found .item)) (fits : next .at ≤ length out) where
-    ready : Prints s m left roomy out
-    ready = subst (λ (x : Tape). Prints s m left x out) (sym is-room) (room s m left t out was)
+    ready : Prints kind s m left roomy out
+    ready = subst (λ (x : Tape). Prints kind s m left x out) (sym is-room) (room kind s m left t out was)
 
     still : roomy .run .going ≡ true
     still = ap (λ (r : Run). r .going) run-room ∙ going
 
-    pub stepped : Prints s m next-left next after
-    stepped = turned s m left roomy out ready still next after next-left found read is w m-is fits
+    pub stepped : Prints kind s m next-left next after
+    stepped = turned kind s m left roomy out ready still next after next-left found read is w m-is fits
 
     pub step-less : ahead s (next .run) < ahead s (t .run)
-    step-less = subst (λ (r : Run). ahead s (next .run) < ahead s r) run-room (less s m left roomy out ready still next after next-left found read is w m-is fits)
+    step-less = subst (λ (r : Run). ahead s (next .run) < ahead s r) run-room (less kind s m left roomy out ready still next after next-left found read is w m-is fits)

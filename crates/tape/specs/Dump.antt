@@ -58,10 +58,10 @@ played (suc n) s m r =
     let x = madeOn m r found in
     cond (r .going) (first x (played n s (storeAt m (found .item)) (x .run))) (over r m)
 
--- 01, Run file: from power-up. A turn reads at least a byte or is the last, so that these are enough
-unfoldable pub playedOf : Store → List ℕ → Played
-playedOf m s = played (length s + 1) s m begunOf
+-- 01, Run file: from power-up of a kind. A turn reads at least a byte or is the last, so that these are enough
+unfoldable pub playedOf : ℕ → Store → List ℕ → Played
+playedOf kind m s = played (length s + 1) s m (begunOf kind)
 
 -- 02 (i): the dump of its ticks, and the comment
-unfoldable pub dumpOf : Store → List ℕ → List ℕ
-dumpOf m s = dumpText (playedOf m s .records) ++ playedOf m s .refusal
+unfoldable pub dumpOf : ℕ → Store → List ℕ → List ℕ
+dumpOf kind m s = dumpText (playedOf kind m s .records) ++ playedOf kind m s .refusal

@@ -35,10 +35,10 @@ fn on_tape(run: Run, wave: Wave, at: usize) -> Tape
     Tape { run, wave, at }
 }
 
-fn begun(at: usize) -> Tape
-    ensures { λ r. ⌜ r ≡ begunOf at ⌝ }
+fn begun(kind: u8, at: usize) -> Tape
+    ensures { λ r. ⌜ r ≡ begunOf kind at ⌝ }
 {
-    on_tape(driver::begun(), vcd::fresh(), at)
+    on_tape(driver::begun(kind), vcd::fresh(), at)
 }
 
 // ---- the text
@@ -120,8 +120,9 @@ fn with_room(before: Tape, out: &[u8]) -> Tape
     on_tape(run, wave, 0)
 }
 
-// The whole dump to standard output, and the run as it ended. The memory that is lent is the run's own, and starts 0.
+// The whole dump of a run on a kind of chip to standard output, and the run as it ended. The memory that is lent is the run's own, and starts 0.
 pub fn print(
+    kind: u8,
     input: &[u8],
     ram: &mut [u8],
     rom: &mut [u8],
@@ -129,12 +130,12 @@ pub fn print(
     out: &mut [u8],
 ) -> Tape
     requires { ⌜ 65536 ≡ length (now out) ⌝ }
-    ensures { λ r. ⌜ r .run ≡ playedOf (store (now (ram .entry)) (now (rom .entry)) (now (colour .entry))) (now (input .entry)) .run ⌝ }
-    ensures { λ r. ⌜ store (now (ram .exit)) (now (rom .exit)) (now (colour .exit)) ≡ playedOf (store (now (ram .entry)) (now (rom .entry)) (now (colour .entry))) (now (input .entry)) .store ⌝ }
-    ensures { λ r. ⌜ Ends (dumpOf (store (now (ram .entry)) (now (rom .entry)) (now (colour .entry))) (now (input .entry))) (now (out .exit)) (r .at) ⌝ }
+    ensures { λ r. ⌜ r .run ≡ playedOf kind (store (now (ram .entry)) (now (rom .entry)) (now (colour .entry))) (now (input .entry)) .run ⌝ }
+    ensures { λ r. ⌜ store (now (ram .exit)) (now (rom .exit)) (now (colour .exit)) ≡ playedOf kind (store (now (ram .entry)) (now (rom .entry)) (now (colour .entry))) (now (input .entry)) .store ⌝ }
+    ensures { λ r. ⌜ Ends (dumpOf kind (store (now (ram .entry)) (now (rom .entry)) (now (colour .entry))) (now (input .entry))) (now (out .exit)) (r .at) ⌝ }
 {
     let start = vcd::declare(&mut *out, 0);
-    let mut tape = begun(start);
+    let mut tape = begun(kind, start);
     while tape.run.going {
         let roomy = with_room(tape, out);
         let run = roomy.run;

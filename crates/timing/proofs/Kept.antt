@@ -3,35 +3,80 @@ use Prim.Native.Nat.{ℕ, _+_, _<_, _≤_}
 use mathlib.Core.Path.{_≡_, refl, sym, _∙_, ap}
 use mathlib.Core.Bool.{Bool, true, false, not, _&&_, _||_, cond}
 use native.Mathlib.Omega.{arith}
-use borrow.Author.Tests.{ltb-true, lt-ltb, le-ltb}
-use lib.Dec.{eqb, ltb}
-use Rattle.laws.proofs.Choice.{either, by-test, and-true, and-false, picks}
-use Rattle.schedule.specs.Kind.{lastCycle, lastLine}
+use borrow.Author.Tests.{leb-true, ltb-true, ltb-false, lt-ltb, le-ltb, le-leb, lt-leb}
+use lib.Dec.{eqb, leb, ltb}
+use Rattle.laws.proofs.Below.{same-test}
+use Rattle.laws.proofs.Choice.{either, by-test, right, and-true, and-false, picks}
+use Rattle.schedule.specs.Kind.{Kind, kindOf, lastCycle, lastLine}
+use Rattle.schedule.specs.Diagram.{happens, graphicsAccess}
+use Rattle.schedule.specs.Machinery.Stretches.{beforeGraphics}
+use Rattle.schedule.proofs.Places.{last-most, last-least}
 use Rattle.timing.specs.declared.Beam.{Beam}
 use Rattle.timing.specs.Set.{cycle≔, den≔, rsel≔, yscroll≔, bad≔, rising≔, ba≔}
-use Rattle.timing.specs.Beam.{badLine, latched, baOutput, nextCycle, nextLine, fresh, beamTurned}
+use Rattle.timing.specs.Beam.{badLine, latched, baOutput, nextCycle, atLastLine, nextLine, fresh, beamTurned}
 
-pub cycle-low : (c : ℕ) → 1 ≤ nextCycle c
-unfolding nextCycle
-cycle-low c = either (λ (n : ℕ). 1 ≤ n) (ltb c lastCycle) (omega arith) (omega arith)
+one-on : (c : ℕ) → c < 66 → (leb 15 c && leb c 54) ≡ (leb 16 (c + 1) && leb (c + 1) 55)
+one-on = same-test (λ c. leb 15 c && leb c 54) (λ c. leb 16 (c + 1) && leb (c + 1) 55) 66 tt
 
-pub cycle-high : (c : ℕ) → nextCycle c ≤ lastCycle
-unfolding nextCycle
-cycle-high c = by-test (λ (n : ℕ). n ≤ lastCycle) (ltb c lastCycle) (λ e. omega (arith, ltb-true c lastCycle e)) (λ e. omega arith)
+over : (c : ℕ) → 63 ≤ c → (leb 15 c && leb c 54) ≡ false
+over c h = rw (le-leb 15 c (omega arith), lt-leb c 54 (omega arith))
 
-pub cycle-next : (c : ℕ) → c < lastCycle → nextCycle c ≡ c + 1
-unfolding nextCycle
-cycle-next c h = rw (lt-ltb c lastCycle h)
+pub before-most : (c : ℕ) → beforeGraphics c ≡ true → c ≤ 54
+unfolding beforeGraphics
+before-most c e = leb-true c 54 (right (leb 15 c) (leb c 54) e)
 
-pub cycle-wraps : (c : ℕ) → lastCycle ≤ c → nextCycle c ≡ 1
-unfolding nextCycle
-cycle-wraps c h = rw (le-ltb c lastCycle h)
+module _ (k : Kind) where
+  pub cycle-low : (c : ℕ) → 1 ≤ nextCycle k c
+  unfolding nextCycle
+  cycle-low c = either (λ (n : ℕ). 1 ≤ n) (ltb c (lastCycle k)) (omega arith) (omega arith)
 
-pub line-high : (r : ℕ) → r ≤ lastLine → nextLine r ≤ lastLine
-unfolding nextLine
-line-high r h = by-test (λ (n : ℕ). n ≤ lastLine) (ltb r lastLine) (λ e. omega (arith, ltb-true r lastLine e)) (λ e. h)
+  pub cycle-high : (c : ℕ) → nextCycle k c ≤ lastCycle k
+  unfolding nextCycle
+  cycle-high c = by-test (λ (n : ℕ). n ≤ lastCycle k) (ltb c (lastCycle k)) (λ e. omega (arith, ltb-true c (lastCycle k) e)) (λ e. omega (arith, last-least k))
+
+  -- a cycle of either kind
+  pub cycle-small : (c : ℕ) → nextCycle k c < 66
+  cycle-small c = omega (arith, cycle-high c, last-most k)
+
+  pub cycle-next : (c : ℕ) → c < lastCycle k → nextCycle k c ≡ c + 1
+  unfolding nextCycle
+  cycle-next c h = rw (lt-ltb c (lastCycle k) h)
+
+  -- within a line of either kind
+  pub cycle-on : (c : ℕ) → c < 63 → nextCycle k c ≡ c + 1
+  cycle-on c h = cycle-next c (omega (arith, last-least k))
+
+  pub cycle-wraps : (c : ℕ) → lastCycle k ≤ c → nextCycle k c ≡ 1
+  unfolding nextCycle
+  cycle-wraps c h = rw (le-ltb c (lastCycle k) h)
+
+  -- a graphics access in the next cycle, told by this one
+  pub before-graphics : (c : ℕ) → beforeGraphics c ≡ happens graphicsAccess (nextCycle k c)
+  unfolding beforeGraphics happens nextCycle
+  before-graphics c = by-test (λ (n : ℕ). (leb 15 c && leb c 54) ≡ (leb 16 n && leb n 55)) (ltb c (lastCycle k)) (λ e. one-on c (omega (arith, ltb-true c (lastCycle k) e, last-most k))) (λ e. over c (omega (arith, ltb-false c (lastCycle k) e, last-least k)))
+
+  -- such a cycle is within a line of either kind
+  pub lit-next : (c : ℕ) → beforeGraphics c ≡ true → nextCycle k c ≡ c + 1
+  lit-next c e = cycle-on c (omega (arith, before-most c e))
+
+  pub line-high : (r : ℕ) → r ≤ lastLine k → nextLine k r ≤ lastLine k
+  unfolding nextLine
+  line-high r h = by-test (λ (n : ℕ). n ≤ lastLine k) (ltb r (lastLine k)) (λ e. omega (arith, ltb-true r (lastLine k) e)) (λ e. h)
+
+  -- a line that is not the last
+  pub line-next : (r : ℕ) → r < lastLine k → nextLine k r ≡ r + 1
+  unfolding nextLine
+  line-next r h = rw (lt-ltb r (lastLine k) h)
+
+  pub not-last : (r : ℕ) → r < lastLine k → atLastLine k r ≡ false
+  unfolding atLastLine
+  not-last r h = lt-leb (lastLine k) r h
 
 module _ (b : Beam) (cycle line : ℕ) (latch kept : Bool) (raster : ℕ) (den rsel : Bool) (yscroll : ℕ) where
+  pub turned-kind : beamTurned b cycle line latch kept raster den rsel yscroll .kind ≡ b .kind
+  unfolding beamTurned
+  turned-kind = refl
+
   pub turned-cycle : beamTurned b cycle line latch kept raster den rsel yscroll .cycle ≡ cycle
   unfolding beamTurned
   turned-cycle = refl
@@ -81,11 +126,16 @@ pub beam-moved : (b : Beam) (cycle : ℕ) (den rsel : Bool) (yscroll : ℕ) → 
 unfolding beamTurned baOutput
 beam-moved b cycle den rsel yscroll l e = rw (latch-stays false (b .raster) den (b .latch) l, e)
 
--- power-up is in the last cycle of the last line
-pub fresh-cycle : fresh .cycle ≡ lastCycle
-unfolding fresh
-fresh-cycle = refl
+-- power-up is in the last cycle of the last line, of the kind that it is given
+module _ (kind : ℕ) where
+  pub fresh-kind : fresh kind .kind ≡ kind
+  unfolding fresh
+  fresh-kind = refl
 
-pub fresh-raster : fresh .raster ≡ lastLine
-unfolding fresh
-fresh-raster = refl
+  pub fresh-cycle : fresh kind .cycle ≡ lastCycle (kindOf kind)
+  unfolding fresh
+  fresh-cycle = refl
+
+  pub fresh-raster : fresh kind .raster ≡ lastLine (kindOf kind)
+  unfolding fresh
+  fresh-raster = refl

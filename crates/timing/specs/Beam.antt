@@ -3,7 +3,7 @@ use Prim.Native.Nat.{ℕ, _+_, _%_}
 use mathlib.Core.Bool.{Bool, true, false, not, _&&_, _||_, cond}
 use lib.Dec.{eqb, leb, ltb}
 use Rattle.laws.specs.Pick.{pick}
-use Rattle.schedule.specs.Kind.{lastCycle, lastLine}
+use Rattle.schedule.specs.Kind.{Kind, kindOf, lastCycle, lastLine}
 use Rattle.schedule.specs.Diagram.{happens, matrixRequest}
 use Rattle.timing.specs.declared.Beam.{Beam}
 
@@ -20,19 +20,20 @@ unfoldable pub baOutput : Bool → ℕ → Bool
 baOutput bad cycle = not (bad && happens matrixRequest cycle)
 
 -- 01, tick 1: cycle +1, and from the last to 1
-unfoldable pub nextCycle : ℕ → ℕ
-nextCycle cycle = cond (ltb cycle lastCycle) (cycle + 1) 1
+unfoldable pub nextCycle : Kind → ℕ → ℕ
+nextCycle k cycle = cond (ltb cycle (lastCycle k)) (cycle + 1) 1
 
 -- 01, tick 3: raster +1, but the last line stays until the frame's end
-unfoldable pub atLastLine : ℕ → Bool
-atLastLine raster = leb lastLine raster
+unfoldable pub atLastLine : Kind → ℕ → Bool
+atLastLine k raster = leb (lastLine k) raster
 
-unfoldable pub nextLine : ℕ → ℕ
-nextLine raster = cond (ltb raster lastLine) (raster + 1) raster
+unfoldable pub nextLine : Kind → ℕ → ℕ
+nextLine k raster = cond (ltb raster (lastLine k)) (raster + 1) raster
 
--- 01, power-up: the state before the first tick of a frame
-unfoldable pub fresh : Beam
-fresh = record { cycle = lastCycle; raster = lastLine; den = false; rsel = false; yscroll = 0; latch = false; bad = false; rising = false; ba = true }
+-- 01, power-up; 02 (iv): the state before the first tick of a frame, of a kind that is kept as it is given
+unfoldable pub fresh : ℕ → Beam
+fresh kind =
+    record { kind = kind; cycle = lastCycle (kindOf kind); raster = lastLine (kindOf kind); den = false; rsel = false; yscroll = 0; latch = false; bad = false; rising = false; ba = true }
 
 -- 01, tick 1 to 4: the cycle and the line, the control bits as latched, the live bad line with its rise, and the BA output.
 -- The bad line is that of the line and the latch before a frame's end, which puts the raster at 0 and the latch off.
@@ -40,6 +41,7 @@ unfoldable pub beamTurned : Beam → ℕ → ℕ → Bool → Bool → ℕ → B
 beamTurned b cycle line latch kept raster den rsel yscroll =
     let bad = badLine line yscroll latch in
     record {
+      kind = b .kind;
       cycle = cycle;
       raster = raster;
       den = den;

@@ -1,9 +1,12 @@
 // The beam: cycle and raster line, the DEN latch, the bad line with its rise, and the BA output that a bad line asks for.
 ghost use mathlib.Core.Path.{_≡_};
 ghost use mathlib.Core.Bool.{Bool};
+ghost use Rattle.schedule.specs.Kind.{kindOf};
 ghost use Rattle.timing.specs.Beam.{badLine, latched, baOutput, nextCycle, atLastLine, nextLine, fresh, beamTurned};
 
 pub struct Beam {
+    // the kind of chip: 0 the 6569, 1 the 6567R8
+    pub kind: u8,
     pub cycle: u16,
     pub raster: u16,
     pub den: bool,
@@ -39,27 +42,27 @@ pub fn ba_output(bad: bool, cycle: u16) -> bool
     !(bad & schedule::matrix_request(cycle))
 }
 
-pub fn next_cycle(cycle: u16) -> u16
-    ensures { λ r. ⌜ r ≡ nextCycle cycle ⌝ }
+pub fn next_cycle(kind: u8, cycle: u16) -> u16
+    ensures { λ r. ⌜ r ≡ nextCycle (kindOf kind) cycle ⌝ }
 {
-    if cycle < schedule::LAST_CYCLE {
+    if cycle < schedule::last_cycle(kind) {
         cycle + 1
     } else {
         1
     }
 }
 
-pub fn at_last_line(raster: u16) -> bool
-    ensures { λ r. ⌜ r ≡ atLastLine raster ⌝ }
+pub fn at_last_line(kind: u8, raster: u16) -> bool
+    ensures { λ r. ⌜ r ≡ atLastLine (kindOf kind) raster ⌝ }
 {
-    schedule::LAST_LINE <= raster
+    schedule::last_line(kind) <= raster
 }
 
 // The line after this one; the last one waits for the frame's end.
-pub fn next_line(raster: u16) -> u16
-    ensures { λ r. ⌜ r ≡ nextLine raster ⌝ }
+pub fn next_line(kind: u8, raster: u16) -> u16
+    ensures { λ r. ⌜ r ≡ nextLine (kindOf kind) raster ⌝ }
 {
-    if raster < schedule::LAST_LINE {
+    if raster < schedule::last_line(kind) {
         raster + 1
     } else {
         raster
@@ -68,12 +71,15 @@ pub fn next_line(raster: u16) -> u16
 
 impl Beam {
     // Just before cycle 1 of the frame's end, as at power-up.
-    pub fn new() -> Self
-        ensures { λ r. ⌜ r ≡ fresh ⌝ }
+    pub fn new(kind: u8) -> Self
+        ensures { λ r. ⌜ r ≡ fresh kind ⌝ }
     {
+        let cycle = schedule::last_cycle(kind);
+        let raster = schedule::last_line(kind);
         Self {
-            cycle: schedule::LAST_CYCLE,
-            raster: schedule::LAST_LINE,
+            kind: kind,
+            cycle: cycle,
+            raster: raster,
             den: false,
             rsel: false,
             yscroll: 0,

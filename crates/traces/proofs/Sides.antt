@@ -4,11 +4,12 @@ use native.Mathlib.Nat.{zero-add, suc-add}
 use mathlib.Core.Path.{_≡_, refl, ap, _∙_}
 use mathlib.Core.Bool.{Bool, true, false}
 use mathlib.Core.List.{[], _∷_}
-use lib.IntN.{pos}
+use lib.IntN.{pos, negsuc}
 use Rattle.laws.specs.Bits.{hasBit, withBit, withoutBit}
 use Rattle.laws.specs.Pick.{pick}
 use Rattle.registers.specs.Irq.{asked, settled, triggered}
-use Rattle.schedule.specs.Diagram.{happens, pointerTime, dataTime, slotSprite}
+use Rattle.schedule.specs.Kind.{kindOf}
+use Rattle.schedule.specs.Diagram.{happens, pointerTime, dataTime, slotSprite, slotAfterBus}
 use Rattle.schedule.specs.Requests.{maskAt}
 use Rattle.timing.specs.Beam as Beams
 use Rattle.timing.specs.Set.{raster≔, den≔, rsel≔, yscroll≔, latch≔}
@@ -19,7 +20,7 @@ use Rattle.sprites.specs.declared.Sprites.{Sprites}
 use Rattle.sprites.specs.Sprites as Sprites
 use Rattle.arbitration.specs.declared.Bus.{Bus}
 use Rattle.arbitration.specs.Bus as Buses
-use Rattle.arbitration.specs.Set.{clock≔, fall≔, rise≔, aec≔, balow≔}
+use Rattle.arbitration.specs.Set.{clock≔, fall≔, rise≔, aec≔, balow≔, aeclow≔}
 use Rattle.rows.specs.Pending.{waits, pendingAfter}
 use Rattle.rows.specs.declared.Pending.the-variants.{Nothing}
 use Rattle.rows.specs.declared.Rows.{Rows}
@@ -29,7 +30,7 @@ use Rattle.rows.specs.Rows as Rows
 use Rattle.side.specs.Phases as Phases
 use Rattle.registers.specs.declared.Controls.{Controls}
 use Rattle.side.specs.Turn.{freshSide, turned}
-use Rattle.traces.specs.Traces.{screen, begun, later, fromPowerUp}
+use Rattle.traces.specs.Traces.{screen, begunOf, begun, later, fromPowerUp, fromPowerUp8}
 
 abbrev shut : Border
 shut = record { vertical = true; main = true; old = true; disabled = true; part40 = 3; part38 = 3; top = 51; bottom = 251 }
@@ -75,11 +76,11 @@ abbrev row : ℕ → ℕ → ℕ → ℕ → Bool → Rows
 row vc vcbase rc vmli display = record { vc = vc; vcbase = vcbase; rc = rc; vmli = vmli; display = display; transition = false; access = false }
 
 -- the end of a line
-abbrev past : ℕ → ℕ → Bool → Border → Sprites → Bus → Rows → Side
-past line flags latch border sprites bus rows =
+abbrev pastOf : ℕ → ℕ → ℕ → Bool → Border → Sprites → Bus → Rows → Side
+pastOf kind line flags latch border sprites bus rows =
     record {
       irq = record { flags = flags; enable = 0; line = false };
-      beam = raster≔ line (den≔ true (rsel≔ true (yscroll≔ 3 (latch≔ latch Beams.fresh))));
+      beam = raster≔ line (den≔ true (rsel≔ true (yscroll≔ 3 (latch≔ latch (Beams.fresh kind)))));
       frame = Frames.fresh;
       border = border;
       sprites = sprites;
@@ -88,6 +89,10 @@ past line flags latch border sprites bus rows =
       pending = waits Nothing;
       changed = false;
     }
+
+-- of a 6569
+abbrev past : ℕ → ℕ → Bool → Border → Sprites → Bus → Rows → Side
+past line flags latch border sprites bus rows = pastOf 0 line flags latch border sprites bus rows
 
 abbrev pub before-47 : Side
 before-47 = past 46 0 false shut (unused 0xF7) (free 5922 0 0) (row 0 0 0 0 false)
@@ -120,9 +125,22 @@ before-250 = past 249 1 true inside (used 0xF7) (free 31500 30642 30728) (row 10
 abbrev pub before-312 : Side
 before-312 = past 311 1 true shut (fetching 15 12 6 12 0xF7) (warned 39312 39308 39306) (row 1000 1000 7 0 false)
 
+-- the 6567R8
+abbrev pub before8-26 : Side
+before8-26 = pastOf 1 25 0 false shut (unused 0xFF) (free 3380 0 0) (row 0 0 0 0 false)
+
+abbrev pub before8-51 : Side
+before8-51 = pastOf 1 50 0 true shut (unused 0xF7) (free 6630 0 0) (row 0 0 0 0 false)
+
+-- sprite 3's pointer and first byte are read, its data not yet
+abbrev pub before8-59 : Side
+before8-59 =
+    pastOf 1 58 1 true inside (three (sprite 0 24 21 true) (sprite 3 10 9 true) (sprite 7 21 21 true) 0xFF 0x89)
+    (aec≔ (negsuc 0) (aeclow≔ true (warned 7670 7664 7662))) (row 40 40 7 40 false)
+
 -- one tick, with all that it computes with: to unfold this is to unfold them
 unfoldable pub ticked : Controls → Side → Side
-unfolding hasBit withBit withoutBit pick asked settled triggered happens pointerTime dataTime slotSprite maskAt Beams.badLine Beams.baOutput Beams.nextCycle Beams.atLastLine Beams.nextLine Beams.fresh Beams.latched Beams.beamTurned Borders.compared Borders.switched Borders.lineBegun Borders.lineEnded Borders.opened Borders.leftPassed Borders.leftPart Borders.left40Passed Borders.left38Passed Borders.right38Passed Borders.right40Passed Sprites.fresh Sprites.allFresh Sprites.spriteAt Sprites.upTo Sprites.crunched Sprites.nextBase Sprites.stepped Sprites.stepOne Sprites.mcbaseStepped Sprites.dmaBegun Sprites.startOne Sprites.started Sprites.firstPhased Sprites.secondPhased Sprites.loadOne Sprites.loaded Sprites.showOne Sprites.shown Sprites.mcLoaded Sprites.fetches Sprites.fetched Buses.fresh Buses.clockOn Buses.clocked Buses.spriteAsks Buses.requested Buses.aecAfter Buses.low Buses.arbitrated pendingAfter Frames.fresh Frames.matchRaises Frames.rasterBegun Frames.frameBegun Frames.frameEnded Frames.raised Frames.swept Rows.fresh Rows.vcAfter Rows.vmliAfter Rows.rcAfter Rows.accessAfter Rows.displayAfter Rows.rowed Phases.beginAt Phases.left40At Phases.left38At Phases.right38At Phases.right40At Phases.rememberAt Phases.endAt Phases.bordered Phases.stepAt Phases.firstAt Phases.secondAt Phases.loadAt Phases.phased Phases.slotMoved freshSide turned
+unfolding kindOf slotAfterBus hasBit withBit withoutBit pick asked settled triggered happens pointerTime dataTime slotSprite maskAt Beams.badLine Beams.baOutput Beams.nextCycle Beams.atLastLine Beams.nextLine Beams.fresh Beams.latched Beams.beamTurned Borders.compared Borders.switched Borders.lineBegun Borders.lineEnded Borders.opened Borders.leftPassed Borders.leftPart Borders.left40Passed Borders.left38Passed Borders.right38Passed Borders.right40Passed Sprites.fresh Sprites.allFresh Sprites.spriteAt Sprites.upTo Sprites.crunched Sprites.nextBase Sprites.stepped Sprites.stepOne Sprites.mcbaseStepped Sprites.dmaBegun Sprites.startOne Sprites.started Sprites.firstPhased Sprites.secondPhased Sprites.loadOne Sprites.loaded Sprites.showOne Sprites.shown Sprites.mcLoaded Sprites.fetches Sprites.fetched Buses.fresh Buses.clockOn Buses.clocked Buses.spriteAsks Buses.requested Buses.aecAfter Buses.low Buses.arbitrated pendingAfter Frames.fresh Frames.matchRaises Frames.rasterBegun Frames.frameBegun Frames.frameEnded Frames.raised Frames.swept Rows.fresh Rows.vcAfter Rows.vmliAfter Rows.rcAfter Rows.accessAfter Rows.displayAfter Rows.rowed Phases.beginAt Phases.left40At Phases.left38At Phases.right38At Phases.right40At Phases.rememberAt Phases.endAt Phases.bordered Phases.stepAt Phases.firstAt Phases.secondAt Phases.loadAt Phases.phased Phases.slotMoved freshSide turned
 ticked g s = turned g s .side
 
 -- each from the one before
@@ -167,36 +185,55 @@ unfolding ticked
 to-312 = refl
 
 -- m ticks after n ticks
-further : (m n : ℕ) {t u : Side} → later (screen 51) n begun ≡ t → later (screen 51) m t ≡ u → later (screen 51) (m + n) begun ≡ u
-further zero n p q = rw zero-add (p ∙ q)
-further (suc m) n p q = rw suc-add (ap (λ (s : Side). turned (screen 51) s .side) (further m n p refl) ∙ q)
+further : (b : Side) (m n : ℕ) {t u : Side} → later (screen 51) n b ≡ t → later (screen 51) m t ≡ u → later (screen 51) (m + n) b ≡ u
+further b zero n p q = rw zero-add (p ∙ q)
+further b (suc m) n p q = rw suc-add (ap (λ (s : Side). turned (screen 51) s .side) (further b m n p refl) ∙ q)
 
 pub reached-47 : fromPowerUp 47 ≡ before-47
 reached-47 = to-47
 
 pub reached-50 : fromPowerUp 50 ≡ before-50
-reached-50 = further (63 * 3) (63 * 47) reached-47 to-50
+reached-50 = further begun (63 * 3) (63 * 47) reached-47 to-50
 
 pub reached-51 : fromPowerUp 51 ≡ before-51
-reached-51 = further (63 * 1) (63 * 50) reached-50 to-51
+reached-51 = further begun (63 * 1) (63 * 50) reached-50 to-51
 
 pub reached-59 : fromPowerUp 59 ≡ before-59
-reached-59 = further (63 * 8) (63 * 51) reached-51 to-59
+reached-59 = further begun (63 * 8) (63 * 51) reached-51 to-59
 
 pub reached-66 : fromPowerUp 66 ≡ before-66
-reached-66 = further (63 * 7) (63 * 59) reached-59 to-66
+reached-66 = further begun (63 * 7) (63 * 59) reached-59 to-66
 
 pub reached-72 : fromPowerUp 72 ≡ before-72
-reached-72 = further (63 * 6) (63 * 66) reached-66 to-72
+reached-72 = further begun (63 * 6) (63 * 66) reached-66 to-72
 
 reached-131 : fromPowerUp 131 ≡ before-131
-reached-131 = further (63 * 59) (63 * 72) reached-72 to-131
+reached-131 = further begun (63 * 59) (63 * 72) reached-72 to-131
 
 reached-195 : fromPowerUp 195 ≡ before-195
-reached-195 = further (63 * 64) (63 * 131) reached-131 to-195
+reached-195 = further begun (63 * 64) (63 * 131) reached-131 to-195
 
 pub reached-250 : fromPowerUp 250 ≡ before-250
-reached-250 = further (63 * 55) (63 * 195) reached-195 to-250
+reached-250 = further begun (63 * 55) (63 * 195) reached-195 to-250
 
 pub reached-312 : fromPowerUp 312 ≡ before-312
-reached-312 = further (63 * 62) (63 * 250) reached-250 to-312
+reached-312 = further begun (63 * 62) (63 * 250) reached-250 to-312
+
+-- the 6567R8
+to8-26 : later (screen 51) (65 * 26) (begunOf 1) ≡ before8-26
+unfolding ticked
+to8-26 = refl
+
+to8-51 : later (screen 51) (65 * 25) before8-26 ≡ before8-51
+unfolding ticked
+to8-51 = refl
+
+to8-59 : later (screen 51) (65 * 8) before8-51 ≡ before8-59
+unfolding ticked
+to8-59 = refl
+
+pub reached8-51 : fromPowerUp8 51 ≡ before8-51
+reached8-51 = further (begunOf 1) (65 * 25) (65 * 26) to8-26 to8-51
+
+pub reached8-59 : fromPowerUp8 59 ≡ before8-59
+reached8-59 = further (begunOf 1) (65 * 8) (65 * 51) reached8-51 to8-59

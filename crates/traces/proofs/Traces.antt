@@ -4,8 +4,8 @@ use mathlib.Core.Path.{_≡_, refl, ap, _∙_}
 use mathlib.Core.Bool.{cond}
 use lib.Dec.{eqb}
 use Rattle.side.specs.declared.Side.{Side}
-use Rattle.traces.specs.Traces.{begun, lines, rowOf, oneOf, rasterOf, flagsOf, latchOf, busOf, borderOf, TracesOf, Traces}
-use Rattle.traces.proofs.Sides.{ticked, before-47, before-50, before-51, before-59, before-66, before-72, before-250, before-312, reached-47, reached-50, reached-51, reached-59, reached-66, reached-72, reached-250, reached-312}
+use Rattle.traces.specs.Traces.{begunOf, begun, lines, lines8, rowOf, oneOf, rasterOf, flagsOf, latchOf, busOf, borderOf, TracesOf, Traces, TracesOf8, Traces8}
+use Rattle.traces.proofs.Sides.{ticked, before-47, before-50, before-51, before-59, before-66, before-72, before-250, before-312, before8-51, before8-59, reached-47, reached-50, reached-51, reached-59, reached-66, reached-72, reached-250, reached-312, reached8-51, reached8-59}
 
 -- the sides before the traced lines
 abbrev known : ℕ → Side
@@ -61,4 +61,21 @@ traces =
       bus = seen (λ s. busOf (lines 2 s)) reached-59 (computed .bus);
       vcbase-312 = seen (λ s. rowOf (lines 1 s) .vcbase) reached-312 (computed .vcbase-312);
       latch-312 = seen (λ s. latchOf (lines 1 s)) reached-312 (computed .latch-312);
+    }
+
+-- the 6567R8
+abbrev known8 : ℕ → Side
+known8 n = cond (eqb n 0) (begunOf 1) (cond (eqb n 51) before8-51 before8-59)
+
+computed8 : TracesOf8 known8
+unfolding ticked
+computed8 = record { raster-0 = refl; sprite-plain = refl; sprite-expanded = refl; bus = refl }
+
+pub traces8 : Traces8
+traces8 =
+    record {
+      raster-0 = computed8 .raster-0;
+      sprite-plain = seen (λ s. oneOf 0 (lines8 2 s)) reached8-51 (computed8 .sprite-plain);
+      sprite-expanded = seen (λ s. oneOf 3 (lines8 3 s)) reached8-51 (computed8 .sprite-expanded);
+      bus = seen (λ s. busOf (lines8 2 s)) reached8-59 (computed8 .bus);
     }

@@ -21,8 +21,12 @@ screen compare =
     record { den = true; rsel = true; yscroll = 3; csel = true; compare = compare; my = replicate 8 51; enable = 0x89; yexp = 0x08 }
 
 -- power-up, but the border has taken the compares of RSEL set (the call `border_compares`); the next tick is cycle 1 of the first frame
+abbrev pub begunOf : ℕ → Side
+begunOf kind = border≔ (compared (freshSide kind .border) true) (freshSide kind)
+
+-- of a 6569
 abbrev pub begun : Side
-begun = border≔ (compared (freshSide .border) true) freshSide
+begun = begunOf 0
 
 -- n ticks on
 abbrev pub later : Controls → ℕ → Side → Side
@@ -285,3 +289,79 @@ pub record TracesOf (before : ℕ → Side) : Type 0 where
 
 abbrev pub Traces : Type 0
 Traces = TracesOf fromPowerUp
+
+-- The 6567R8
+
+-- 02 (iv): the same run on a chip of 65 cycles a line, and its lines
+abbrev pub fromPowerUp8 : ℕ → Side
+fromPowerUp8 n = later (screen 51) (65 * n) (begunOf 1)
+
+abbrev pub lines8 : ℕ → Side → List Side
+lines8 n s = each (screen 51) (65 * n) s
+
+pub record TracesOf8 (before : ℕ → Side) : Type 0 where
+  -- Line 0
+  pub raster-0 :
+      rasterOf (lines8 1 (before 0)) ≡
+      holds 1 1 262  -- Bauer 3.4: line 262 is the last; DIFFERENCES 8: it stays for cycle 1
+      ++ holds 2 65 0
+  -- Lines 51 and 52: sprite 0, pointer and first byte in cycle 59, two bytes in 60
+  pub sprite-plain :
+      oneOf 0 (lines8 2 (before 51)) ≡ record {
+        dma = holds 1 55 off ++ holds 56 65 on ++ holds 1 65 on;  -- Bauer 3.8.1 rule 3; DIFFERENCES 30: in cycle 56
+        flip = holds 1 65 on ++ holds 1 65 on;
+        mcbase = holds 1 65 0 ++ holds 1 15 0 ++ holds 16 65 3;  -- rules 7 and 8 in cycle 16, as on the 6569
+        mc =
+            holds 1 58 0
+            ++ holds 59 59 1  -- rules 4 and 5; DIFFERENCES 30: MC takes MCBASE in cycle 59
+            ++ holds 60 65 3
+            ++ holds 1 58 3
+            ++ holds 59 59 4
+            ++ holds 60 65 6;
+      }
+  -- Lines 51, 52 and 53: sprite 3, pointer and first byte in a line's last cycle, two bytes in the next line's first
+  pub sprite-expanded :
+      oneOf 3 (lines8 3 (before 51)) ≡ record {
+        dma = holds 1 55 off ++ holds 56 65 on ++ holds 1 65 on ++ holds 1 65 on;
+        flip = holds 1 65 off ++ holds 1 55 off ++ holds 56 65 on ++ holds 1 55 on ++ holds 56 65 off;  -- rule 2, in cycle 56
+        mcbase = holds 1 65 0 ++ holds 1 65 0 ++ holds 1 15 0 ++ holds 16 65 3;
+        mc =
+            holds 1 64 0
+            ++ holds 65 65 1  -- rule 5: one byte beside the pointer
+            ++ holds 1 58 3  -- and two in the next line
+            ++ holds 59 64 0  -- rule 4: MC takes MCBASE, 0 again
+            ++ holds 65 65 1
+            ++ holds 1 58 3
+            ++ holds 59 64 3
+            ++ holds 65 65 4;
+      }
+  -- Lines 59, a bad line, and 60, which is not: BA and AEC, with sprites 0, 3 and 7
+  pub bus :
+      busOf (lines8 2 (before 59)) ≡
+      holds 1 1 (low, low)  -- Bauer 3.6.3: sprite 3's data
+      ++ holds 2 4 (high, high)
+      ++ holds 5 7 (low, high)  -- Bauer 3.6.1: BA falls three cycles before sprite 7's pointer
+      ++ holds 8 9 (low, low)  -- sprite 7 has cycles 8 and 9
+      ++ holds 10 11 (high, high)
+      ++ holds 12 14 (low, high)  -- the matrix, as on the 6569
+      ++ holds 15 54 (low, low)  -- the c-accesses
+      ++ holds 55 55 (high, high)  -- one cycle for the CPU, which the 6569 has not
+      ++ holds 56 58 (low, high)  -- three cycles before sprite 0's pointer
+      ++ holds 59 60 (low, low)
+      ++ holds 61 61 (high, high)
+      ++ holds 62 64 (low, high)  -- three cycles before sprite 3's pointer
+      ++ holds 65 65 (low, low)
+      -- line 60
+      ++ holds 1 1 (low, low)
+      ++ holds 2 4 (high, high)
+      ++ holds 5 7 (low, high)
+      ++ holds 8 9 (low, low)
+      ++ holds 10 55 (high, high)  -- no c-accesses
+      ++ holds 56 58 (low, high)
+      ++ holds 59 60 (low, low)
+      ++ holds 61 61 (high, high)
+      ++ holds 62 64 (low, high)
+      ++ holds 65 65 (low, low)
+
+abbrev pub Traces8 : Type 0
+Traces8 = TracesOf8 fromPowerUp8

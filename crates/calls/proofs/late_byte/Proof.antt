@@ -3,13 +3,13 @@ use borrow.Author.Needs.{needs}
 use Rattle.calls.proofs.late_byte.Statement.{statement}
 use Rattle.calls.proofs.late_byte.Tie as tie
 
-is-accepted-requires : tie.Need-is-accepted-requires
-is-accepted-requires c κs = search needs
+state-refusal-requires : tie.Need-state-refusal-requires
+state-refusal-requires c κs = search needs
 
 returns : tie.Need-returns
 returns c =
     let s = c .before .before .args in
-    not-late (s .chip) (s .byte) (c .before .is-accepted .ensures) (c .if1 .taken)
+    not-late (s .chip) (s .byte) (c .before .state-refusal .ensures) (c .if1 .taken)
 
 enum-told : tie.Need-enum-told
 enum-told c = search needs
@@ -20,29 +20,29 @@ enum-known-pending c = search needs
 fill-late-requires : tie.Need-fill-late-requires
 fill-late-requires c κs =
     let left = c .before .before .before .before .before in
-    let fine = left .before in
-    let s = fine .before .args in
-    late-small (s .chip) (s .byte) (fine .is-accepted .ensures) (left .if1 .left) (c .before .pending .given .1)
+    let state = left .before in
+    let s = state .before .args in
+    late-small (s .chip) (s .byte) (state .state-refusal .ensures) (left .if1 .left) (c .before .pending .given .1)
 
 returns-2 : tie.Need-returns-2
 returns-2 c =
     let left = c .before .before .before .before in
-    let fine = left .before in
-    let s = fine .before .args in
-    late-none (s .chip) (s .byte) (fine .is-accepted .ensures) (left .if1 .left) (c .enum-told .given .1)
+    let state = left .before in
+    let s = state .before .args in
+    late-none (s .chip) (s .byte) (state .state-refusal .ensures) (left .if1 .left) (c .enum-told .given .1)
 
 returns-3 : tie.Need-returns-3
 returns-3 c =
     let left = c .before .before .before .before .before .before in
-    let fine = left .before in
-    let s = fine .before .args in
-    late-filled (s .chip) (s .byte) (fine .is-accepted .ensures) (left .if1 .left) (c .before .before .pending .given .1) (c .fill-late .ensures)
+    let state = left .before in
+    let s = state .before .args in
+    late-filled (s .chip) (s .byte) (state .state-refusal .ensures) (left .if1 .left) (c .before .before .pending .given .1) (c .fill-late .ensures)
 
 pub late-byte-spec : {M : Type 1} → statement M
 late-byte-spec =
     tie.close
     (tie.spec
-    is-accepted-requires
+    state-refusal-requires
     returns
     enum-told
     enum-known-pending

@@ -25,9 +25,19 @@ vmli-limit-requires c κs = search needs
 wide-requires : tie.Need-wide-requires
 wide-requires c κs = search needs
 
+is-known-requires : tie.Need-is-known-requires
+is-known-requires c κs = search needs
+
+last-cycle-requires : tie.Need-last-cycle-requires
+last-cycle-requires c κs = search needs
+
+last-line-requires : tie.Need-last-line-requires
+last-line-requires c κs = search needs
+
 returns : tie.Need-returns
 returns c =
-    let wide = c .before .before .before .before .before .before .before in
+    let bottom = c .before .before .before .before .before .before .before in
+    let wide = bottom .before .before .before in
     let place = wide .before .before .before in
     let forced = place .before in
     let clock = forced .before .before in
@@ -41,6 +51,9 @@ returns c =
     (wide .before .before .fine .ensures)
     (wide .before .vmli-limit .ensures)
     (wide .wide .ensures)
+    (bottom .before .before .is-known .ensures)
+    (bottom .before .last-cycle .ensures)
+    (bottom .last-line .ensures)
 
 pub is-accepted-spec : {M : Type 1} → statement M
 is-accepted-spec =
@@ -53,4 +66,7 @@ is-accepted-spec =
     fine-requires
     vmli-limit-requires
     wide-requires
+    is-known-requires
+    last-cycle-requires
+    last-line-requires
     returns)

@@ -4,9 +4,6 @@ use borrow.Author.Needs.{needs}
 use Rattle.picture.proofs.slot.Statement.{statement}
 use Rattle.picture.proofs.slot.Tie as tie
 
-first-slot-requires : tie.Need-first-slot-requires
-first-slot-requires c κs = search needs
-
 pointer-slot-requires : tie.Need-pointer-slot-requires
 pointer-slot-requires c κs = search needs
 
@@ -19,7 +16,7 @@ same-length-2 c = search needs
 returns : tie.Need-returns
 returns c =
     let e = c .before .before .before .before .pointer-slot .ensures in
-    pointed _ _ _ _ _ _ _ _ (c .before .before .before .before .before .before .before .before .before .if1 .taken) (c .before .before .before .before .before .before .first-slot .ensures) (e .0) (e .1)
+    pointed _ _ _ _ _ _ _ _ (c .before .before .before .before .before .before .before .before .if1 .taken) (e .0) (e .1)
 
 data-slot-requires : tie.Need-data-slot-requires
 data-slot-requires c κs = search needs
@@ -49,7 +46,6 @@ pub slot-spec : {M : Type 1} → statement M
 slot-spec =
     tie.close
     (tie.spec
-    first-slot-requires
     pointer-slot-requires
     same-length
     same-length-2

@@ -1,3 +1,4 @@
+use Rattle.schedule.specs.Kind.{kindOf}
 use Rattle.raster.proofs.Glue.{sweep-glue}
 use borrow.Author.Needs.{needs}
 use Rattle.raster.proofs.sweep.Statement.{statement}
@@ -36,7 +37,7 @@ raise-requires c κs = search needs
 returns : tie.Need-returns
 returns c =
     let start = c .before .before .before .before .before .before .before .before .before .before .before .args in
-    sweep-glue (start .frame) (start .irq) (start .cycle) (start .raster) (start .compare) (start .den) (start .latch)
+    sweep-glue (kindOf (start .kind)) (start .frame) (start .irq) (start .cycle) (start .raster) (start .compare) (start .den) (start .latch)
     (c .before .before .before .before .before .before .before .before .before .before .line-begins .ensures)
     (c .before .before .before .before .before .before .before .before .before .at-last-line .ensures)
     (c .before .before .before .before .before .before .before .before .raster-begun .ensures)

@@ -1,4 +1,5 @@
 use mathlib.Core.Path.{sym, _∙_}
+use Rattle.schedule.specs.Kind.{kindOf}
 use Rattle.schedule.proofs.Parts.{later}
 use Rattle.raster.proofs.Laws.{swept-later}
 use borrow.Author.Needs.{needs}
@@ -15,7 +16,7 @@ returns : tie.Need-returns
 returns c =
     let start = c .before .before .before in
     rw (c .latched .ensures)
-    (swept-later (start .args .frame) (start .args .irq) (start .args .cycle) (start .args .raster) (start .args .compare) (start .args .den) (start .args .latch)
+    (swept-later (kindOf (start .args .kind)) (start .args .frame) (start .args .irq) (start .args .cycle) (start .args .raster) (start .args .compare) (start .args .den) (start .args .latch)
     (later (start .args .cycle) (start .pre) (sym (c .before .before .later .ensures) ∙ c .before .if1 .taken)))
 
 sweep-requires : tie.Need-sweep-requires

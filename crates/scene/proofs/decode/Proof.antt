@@ -1,22 +1,53 @@
+use mathlib.Core.Path.{_≡_, sym, _∙_}
+use native.Mathlib.Omega.{arith}
+use lib.ListN.{length}
+use denote.Ref.{now}
 use borrow.Author.Needs.{needs}
-use borrow.Author.Tests.{eq-eqb, ne-eqb}
+use borrow.Author.Tests.{eqb-true}
+use Rattle.laws.proofs.Choice.{left}
+use Rattle.scene.specs.Versions.{next, renewed}
 use Rattle.scene.specs.Decode.{decoded}
 use Rattle.scene.proofs.decode.Statement.{statement}
 use Rattle.scene.proofs.decode.Tie as tie
 
-no-scene-requires : tie.Need-no-scene-requires
-no-scene-requires c κs = search needs
+is-version-requires : tie.Need-is-version-requires
+is-version-requires c κs = search needs
+
+slice-aggregate-grow : tie.Need-slice-aggregate-grow
+slice-aggregate-grow c = search needs
+
+grow-requires : tie.Need-grow-requires
+grow-requires c κs =
+    let bytes = now (c .before .before .before .before .args .bytes) in
+    let long : length bytes ≡ 308 = eqb-true _ _ (left _ _ (sym (c .before .before .is-version .ensures) ∙ c .before .if1 .taken)) in
+    (omega arith, omega arith)
+
+slice-aggregate-decode-newest : tie.Need-slice-aggregate-decode-newest
+slice-aggregate-decode-newest c = search needs
+
+decode-newest-requires : tie.Need-decode-newest-requires
+decode-newest-requires c κs = search needs
 
 returns : tie.Need-returns
-unfolding decoded
-returns c = simp (c .no-scene .ensures, ne-eqb _ _ (c .before .if1 .taken))
+unfolding decoded renewed next
+returns c = simp (c .decode-newest .ensures, c .before .before .before .grow .ensures, sym (c .before .before .before .before .before .before .is-version .ensures) ∙ c .before .before .before .before .before .if1 .taken)
 
-decode-fields-requires : tie.Need-decode-fields-requires
-decode-fields-requires c κs = search needs
+decode-newest-requires-2 : tie.Need-decode-newest-requires-2
+decode-newest-requires-2 c κs = search needs
 
 returns-2 : tie.Need-returns-2
-unfolding decoded
-returns-2 c = simp (c .decode-fields .ensures, eq-eqb _ _ (c .before .if1 .left))
+unfolding decoded renewed next
+returns-2 c = simp (c .decode-newest2 .ensures, sym (c .before .before .is-version .ensures) ∙ c .before .if1 .left)
 
 pub decode-spec : {M : Type 1} → statement M
-decode-spec = tie.close (tie.spec no-scene-requires returns decode-fields-requires returns-2)
+decode-spec =
+    tie.close
+    (tie.spec
+    is-version-requires
+    slice-aggregate-grow
+    grow-requires
+    slice-aggregate-decode-newest
+    decode-newest-requires
+    returns
+    decode-newest-requires-2
+    returns-2)

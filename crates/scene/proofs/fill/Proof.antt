@@ -27,11 +27,11 @@ put-rest-requires c κs = search needs
 put-clocks-requires : tie.Need-put-clocks-requires
 put-clocks-requires c κs = c .before .before .before .before .put-rest .ensures .size ∙ c .before .before .before .before .before .before .before .before .put-matrix .ensures .size ∙ c .before .before .before .before .before .before .before .before .before .before .before .before .put-sprites .ensures .size ∙ c .before .before .before .before .before .before .before .before .before .before .before .before .before .before .before .before .put-masks .ensures .size ∙ c .before .before .before .before .before .before .before .before .before .before .before .before .before .before .before .before .before .before .before .before .put-registers .ensures .size ∙ c .before .before .before .before .before .before .before .before .before .before .before .before .before .before .before .before .before .before .before .before .before .before .before .before .put-head .ensures .size ∙ c .before .before .before .before .before .before .before .before .before .before .before .before .before .before .before .before .before .before .before .before .before .before .before .before .before .before .before .before .before .before .before .before .before .before .before .before .before .before .pre
 
-put-place-requires : tie.Need-put-place-requires
-put-place-requires c κs = c .before .before .before .put-clocks .ensures .size ∙ c .before .before .before .before .before .before .before .before .put-rest .ensures .size ∙ c .before .before .before .before .before .before .before .before .before .before .before .before .put-matrix .ensures .size ∙ c .before .before .before .before .before .before .before .before .before .before .before .before .before .before .before .before .put-sprites .ensures .size ∙ c .before .before .before .before .before .before .before .before .before .before .before .before .before .before .before .before .before .before .before .before .put-masks .ensures .size ∙ c .before .before .before .before .before .before .before .before .before .before .before .before .before .before .before .before .before .before .before .before .before .before .before .before .put-registers .ensures .size ∙ c .before .before .before .before .before .before .before .before .before .before .before .before .before .before .before .before .before .before .before .before .before .before .before .before .before .before .before .before .put-head .ensures .size ∙ c .before .before .before .before .before .before .before .before .before .before .before .before .before .before .before .before .before .before .before .before .before .before .before .before .before .before .before .before .before .before .before .before .before .before .before .before .before .before .before .before .before .before .pre
+put-tail-requires : tie.Need-put-tail-requires
+put-tail-requires c κs = c .before .before .before .put-clocks .ensures .size ∙ c .before .before .before .before .before .before .before .before .put-rest .ensures .size ∙ c .before .before .before .before .before .before .before .before .before .before .before .before .put-matrix .ensures .size ∙ c .before .before .before .before .before .before .before .before .before .before .before .before .before .before .before .before .put-sprites .ensures .size ∙ c .before .before .before .before .before .before .before .before .before .before .before .before .before .before .before .before .before .before .before .before .put-masks .ensures .size ∙ c .before .before .before .before .before .before .before .before .before .before .before .before .before .before .before .before .before .before .before .before .before .before .before .before .put-registers .ensures .size ∙ c .before .before .before .before .before .before .before .before .before .before .before .before .before .before .before .before .before .before .before .before .before .before .before .before .before .before .before .before .put-head .ensures .size ∙ c .before .before .before .before .before .before .before .before .before .before .before .before .before .before .before .before .before .before .before .before .before .before .before .before .before .before .before .before .before .before .before .before .before .before .before .before .before .before .before .before .before .before .pre
 
 same-length : tie.Need-same-length
-same-length c = search needs
+same-length c = c .before .before .put-tail .ensures .size ∙ c .before .before .before .before .before .before .put-clocks .ensures .size ∙ c .before .before .before .before .before .before .before .before .before .before .before .put-rest .ensures .size ∙ c .before .before .before .before .before .before .before .before .before .before .before .before .before .before .before .put-matrix .ensures .size ∙ c .before .before .before .before .before .before .before .before .before .before .before .before .before .before .before .before .before .before .before .put-sprites .ensures .size ∙ c .before .before .before .before .before .before .before .before .before .before .before .before .before .before .before .before .before .before .before .before .before .before .before .put-masks .ensures .size ∙ c .before .before .before .before .before .before .before .before .before .before .before .before .before .before .before .before .before .before .before .before .before .before .before .before .before .before .before .put-registers .ensures .size ∙ c .before .before .before .before .before .before .before .before .before .before .before .before .before .before .before .before .before .before .before .before .before .before .before .before .before .before .before .before .before .before .before .put-head .ensures .size
 
 returns : tie.Need-returns
 unfolding encoded
@@ -44,8 +44,8 @@ returns c =
     let matrix = c .before .before .before .before .before .before .before .before .before .before .before .before .before .before .before .put-matrix .ensures in
     let rest = c .before .before .before .before .before .before .before .before .before .before .before .put-rest .ensures in
     let clocks = rw (back64 (start .args .chip .picture .pen .forced) (c .before .before .before .before .before .before .before .struct-told .given .1 .1 .1 .1 .1 .1 .0 .1)) at (c .before .before .before .before .before .before .put-clocks .ensures) in
-    let place = c .before .before .put-place .ensures in
-    let all = put-both (put-both (put-both (put-both (put-both (put-both (put-both head registers) masks) sprites) matrix) rest) clocks) place in
+    let tail = c .before .before .put-tail .ensures in
+    let all = put-both (put-both (put-both (put-both (put-both (put-both (put-both head registers) masks) sprites) matrix) rest) clocks) tail in
     (put-whole (start .pre) all, all .size ∙ start .pre)
 
 pub fill-spec : {M : Type 1} → statement M
@@ -59,6 +59,6 @@ fill-spec =
     put-matrix-requires
     put-rest-requires
     put-clocks-requires
-    put-place-requires
+    put-tail-requires
     same-length
     returns)

@@ -1,5 +1,5 @@
 use mathlib.Core.Path.{refl}
-use Rattle.schedule.specs.Machinery.Stretches.{isCalm}
+use Rattle.schedule.specs.Machinery.Places.{isCalm}
 use Rattle.schedule.proofs.calm.Statement.{statement}
 use Rattle.schedule.proofs.calm.Tie as tie
 

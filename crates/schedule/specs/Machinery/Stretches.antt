@@ -1,4 +1,4 @@
--- Stretches of a line in which some events never happen: the code tests for a stretch where it would test for each event.
+-- Stretches of a line in which some events never happen, on either kind: the code tests for a stretch where it would test for each event.
 -- No rules: `proofs/Parts.antt` computes from the diagram what never happens in each.
 use Prim.Native.Nat.{ℕ}
 use mathlib.Core.Bool.{Bool, _&&_, _||_}
@@ -20,10 +20,10 @@ isEarly c = ltb c 55
 unfoldable pub isBetween : ℕ → Bool
 isBetween c = (leb 2 c && leb c 55) || (leb 58 c && leb c 62)
 
--- no phase of a line's end
-unfoldable pub isCalm : ℕ → Bool
-isCalm c = leb c 15 || leb 59 c
-
 -- no counter of a row moves
 unfoldable pub isStill : ℕ → Bool
 isStill c = (leb 3 c && leb c 13) || leb 59 c
+
+-- the cycle after this one has a graphics access
+unfoldable pub beforeGraphics : ℕ → Bool
+beforeGraphics c = leb 15 c && leb c 54

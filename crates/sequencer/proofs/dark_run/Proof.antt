@@ -4,8 +4,7 @@ use Prim.Native.Nat.{ℕ, _-_}
 use native.Mathlib.Omega.{arith}
 use borrow.Author.Needs.{needs}
 use Rattle.memory.specs.Lent.{host}
-use Rattle.schedule.specs.Diagram.{happens, graphicsAccess}
-use Rattle.timing.specs.Beam.{nextCycle}
+use Rattle.schedule.specs.Machinery.Stretches.{beforeGraphics}
 use Rattle.sequencer.specs.World.{world}
 use Rattle.sequencer.proofs.Runs.{ready}
 use Rattle.sequencer.proofs.Staged.{Parting, started, tickable-now, further, stopped-at, ended-at}
@@ -13,7 +12,7 @@ use Rattle.sequencer.proofs.dark_run.Statement.{statement}
 use Rattle.sequencer.proofs.dark_run.Tie as tie
 
 abbrev goes : ℕ → Bool
-goes c = not (happens graphicsAccess (nextCycle c))
+goes c = not (beforeGraphics c)
 
 abbrev Inv-loop : tie.InvT-loop
 Inv-loop regs matrix₀ pointers₀ bytes₀ words₀ ram rom colour bank n now₀ i₀ matrix pointers bytes words now i =
@@ -28,8 +27,8 @@ loop-holds c =
     let start = c .before .before .before .before .before .before .before in
     started (host (start .args .ram .now) (start .args .rom .now) (start .args .colour .now) (start .args .bank)) (start .args .regs) goes (world (start .args .core) (start .args .matrix .now) (start .args .pointers .now) (start .args .bytes .now) (start .args .words .now)) (start .args .n) (start .pre .0) (start .pre .1)
 
-is-lit-requires : tie.Need-is-lit-requires Inv-loop μ-loop
-is-lit-requires c κs = search needs
+before-graphics-requires : tie.Need-before-graphics-requires Inv-loop μ-loop
+before-graphics-requires c κs = search needs
 
 same-length : tie.Need-same-length Inv-loop μ-loop
 same-length c = c .before .before .before .before .before .loop .inv .going .held .forty ∙ sym (c .before .before .before .before .before .before .before .before .before .before .before .before .before .pre .0 .forty)
@@ -46,13 +45,13 @@ same-length-4 c = c .before .before .before .before .before .loop .inv .going .h
 returns : tie.Need-returns Inv-loop μ-loop
 returns c =
     let start = c .before .before .before .before .before .before .before .before .before .before .before .before .before in
-    stopped-at (host (start .args .ram .now) (start .args .rom .now) (start .args .colour .now) (start .args .bank)) (start .args .regs) goes (world (start .args .core) (start .args .matrix .now) (start .args .pointers .now) (start .args .bytes .now) (start .args .words .now)) (start .args .n) (c .before .before .before .before .before .loop .inv) (rw (sym (c .before .is-lit .ensures) ∙ c .if1 .taken) refl)
+    stopped-at (host (start .args .ram .now) (start .args .rom .now) (start .args .colour .now) (start .args .bank)) (start .args .regs) goes (world (start .args .core) (start .args .matrix .now) (start .args .pointers .now) (start .args .bytes .now) (start .args .words .now)) (start .args .n) (c .before .before .before .before .before .loop .inv) (rw (sym (c .before .before-graphics .ensures) ∙ c .if1 .taken) refl)
 
 inner-dark-requires : tie.Need-inner-dark-requires Inv-loop μ-loop
 inner-dark-requires c κs =
     let start = c .before .before .before .before .before .before .before .before .before .before .before .before .before .before .before .before .before in
     let inv = c .before .before .before .before .before .before .before .before .before .loop .inv in
-    (ready (inv .going .held) (tickable-now (host (start .args .ram .now) (start .args .rom .now) (start .args .colour .now) (start .args .bank)) (start .args .regs) goes (world (start .args .core) (start .args .matrix .now) (start .args .pointers .now) (start .args .bytes .now) (start .args .words .now)) (start .args .n) inv (c .before .before .before .before .before .before .before .before .loop-test .taken)), sym (c .before .before .before .before .before .is-lit .ensures) ∙ c .before .before .before .before .if1 .left)
+    (ready (inv .going .held) (tickable-now (host (start .args .ram .now) (start .args .rom .now) (start .args .colour .now) (start .args .bank)) (start .args .regs) goes (world (start .args .core) (start .args .matrix .now) (start .args .pointers .now) (start .args .bytes .now) (start .args .words .now)) (start .args .n) inv (c .before .before .before .before .before .before .before .before .loop-test .taken)), sym (c .before .before .before .before .before .before-graphics .ensures) ∙ c .before .before .before .before .if1 .left)
 
 add-i : tie.Need-add-i Inv-loop μ-loop
 add-i c = omega (arith, c .before .before .before .before .before .before .before .before .before .before .before .before .before .before .before .before .before .before .before .before .before .before .before .before .before .before .fits .n, c .before .before .before .before .before .before .before .before .before .before .before .before .before .before .before .before .before .loop-test .taken)
@@ -91,7 +90,7 @@ dark-run-spec =
     Inv-loop
     μ-loop
     loop-holds
-    is-lit-requires
+    before-graphics-requires
     same-length
     same-length-2
     same-length-3

@@ -5,9 +5,10 @@ use native.Mathlib.Omega.{arith}
 use borrow.Author.Needs.{needs}
 use borrow.Author.Tests.{not-true, not-false}
 use Rattle.memory.specs.Lent.{host}
-use Rattle.schedule.specs.Diagram.{happens, graphicsAccess}
-use Rattle.timing.specs.Beam.{nextCycle}
+use Rattle.schedule.specs.Machinery.Stretches.{beforeGraphics}
 use Rattle.sequencer.specs.World.{world}
+use Rattle.schedule.specs.Kind.{kindOf}
+use Rattle.schedule.proofs.Places.{last-most}
 use Rattle.chip.proofs.Fine.{accepted-fine}
 use Rattle.sequencer.proofs.Staged.{Parting, started, stopped-at, ended-at}
 use Rattle.sequencer.proofs.Skip.{ready-later, lit-later, further-by, few, place, may}
@@ -15,7 +16,7 @@ use Rattle.sequencer.proofs.lit_run.Statement.{statement}
 use Rattle.sequencer.proofs.lit_run.Tie as tie
 
 abbrev goes : ℕ → Bool
-goes c = happens graphicsAccess (nextCycle c)
+goes c = beforeGraphics c
 
 abbrev Inv-loop : tie.InvT-loop
 Inv-loop regs matrix₀ pointers₀ bytes₀ words₀ ram rom colour bank n now₀ i₀ matrix pointers bytes words now i =
@@ -30,8 +31,8 @@ loop-holds c =
     let start = c .before .before .before .before .before .before .before in
     started (host (start .args .ram .now) (start .args .rom .now) (start .args .colour .now) (start .args .bank)) (start .args .regs) goes (world (start .args .core) (start .args .matrix .now) (start .args .pointers .now) (start .args .bytes .now) (start .args .words .now)) (start .args .n) (start .pre .0) (start .pre .1)
 
-is-lit-requires : tie.Need-is-lit-requires Inv-loop μ-loop
-is-lit-requires c κs = search needs
+before-graphics-requires : tie.Need-before-graphics-requires Inv-loop μ-loop
+before-graphics-requires c κs = search needs
 
 same-length : tie.Need-same-length Inv-loop μ-loop
 same-length c = c .before .before .before .before .before .loop .inv .going .held .forty ∙ sym (c .before .before .before .before .before .before .before .before .before .before .before .before .before .pre .0 .forty)
@@ -48,7 +49,7 @@ same-length-4 c = c .before .before .before .before .before .loop .inv .going .h
 returns : tie.Need-returns Inv-loop μ-loop
 returns c =
     let start = c .before .before .before .before .before .before .before .before .before .before .before .before .before in
-    stopped-at (host (start .args .ram .now) (start .args .rom .now) (start .args .colour .now) (start .args .bank)) (start .args .regs) goes (world (start .args .core) (start .args .matrix .now) (start .args .pointers .now) (start .args .bytes .now) (start .args .words .now)) (start .args .n) (c .before .before .before .before .before .loop .inv) (sym (c .before .is-lit .ensures) ∙ not-true _ (c .if1 .taken))
+    stopped-at (host (start .args .ram .now) (start .args .rom .now) (start .args .colour .now) (start .args .bank)) (start .args .regs) goes (world (start .args .core) (start .args .matrix .now) (start .args .pointers .now) (start .args .bytes .now) (start .args .words .now)) (start .args .n) (c .before .before .before .before .before .loop .inv) (sym (c .before .before-graphics .ensures) ∙ not-true _ (c .if1 .taken))
 
 skippable-requires : tie.Need-skippable-requires Inv-loop μ-loop
 skippable-requires c κs = search needs
@@ -64,8 +65,9 @@ leap-requires c κs =
     let start = c .before .before .before .before .before .before .before .before .before .before .before .before .before .before .before in
     let h = host (start .args .ram .now) (start .args .rom .now) (start .args .colour .now) (start .args .bank) in
     let w = world (start .args .core) (start .args .matrix .now) (start .args .pointers .now) (start .args .bytes .now) (start .args .words .now) in
-    let fine = accepted-fine _ (c .before .before .before .before .before .before .before .loop .inv .going .held .fine) .side in
-    (fine .clock, omega (arith, fine .last))
+    let loop = c .before .before .before .before .before .before .before .loop in
+    let fine = accepted-fine _ (loop .inv .going .held .fine) .side in
+    (fine .clock, omega (arith, fine .last, last-most (kindOf (loop .now .side .beam .kind))))
 
 inner-lit-requires : tie.Need-inner-lit-requires Inv-loop μ-loop
 inner-lit-requires c κs =
@@ -75,7 +77,7 @@ inner-lit-requires c κs =
     let loop = c .before .before .before .before .before .before .before .before .before .before .before .before .loop in
     let k = c .before .before .before .before .before .skips .result in
     let count = c .before .before .before .before .before .skips .ensures in
-    let lit = sym (c .before .before .before .before .before .before .before .before .is-lit .ensures) ∙ not-false _ (c .before .before .before .before .before .before .before .if1 .left) in
+    let lit = sym (c .before .before .before .before .before .before .before .before .before-graphics .ensures) ∙ not-false _ (c .before .before .before .before .before .before .before .if1 .left) in
     rw (c .before .before .before .before .leap .ensures)
     (ready-later h (start .args .regs) goes w (start .args .n) k (loop .inv) (few (c .before .before .before .before .before .before .skippable .result) (c .before .before .before .before .before .before .before .before .before .before .before .before .loop .now .side .beam .cycle) (c .before .before .before .before .before .before .before .before .before .before .before .before .loop .i) (c .before .before .before .before .before .before .before .before .before .before .before .before .before .before .before .before .before .before .before .before .args .n) count (c .before .before .before .before .before .before .before .before .before .before .before .loop-test .taken)), lit-later (loop .now .side .beam .cycle) k (place (c .before .before .before .before .before .before .skippable .result) (c .before .before .before .before .before .before .before .before .before .before .before .before .loop .now .side .beam .cycle) (c .before .before .before .before .before .before .before .before .before .before .before .before .loop .i) (c .before .before .before .before .before .before .before .before .before .before .before .before .before .before .before .before .before .before .before .before .args .n) count) lit)
 
@@ -130,7 +132,7 @@ lit-run-spec =
     Inv-loop
     μ-loop
     loop-holds
-    is-lit-requires
+    before-graphics-requires
     same-length
     same-length-2
     same-length-3

@@ -3,8 +3,8 @@ use borrow.Author.Needs.{needs}
 use Rattle.sequencer.proofs.stage.Statement.{statement}
 use Rattle.sequencer.proofs.stage.Tie as tie
 
-is-lit-requires : tie.Need-is-lit-requires
-is-lit-requires c κs = search needs
+before-graphics-requires : tie.Need-before-graphics-requires
+before-graphics-requires c κs = search needs
 
 lit-run-requires : tie.Need-lit-run-requires
 lit-run-requires c κs = search needs
@@ -22,7 +22,7 @@ same-length-4 : tie.Need-same-length-4
 same-length-4 c = search needs
 
 returns : tie.Need-returns
-returns c = rw (sym (c .before .before .before .before .before .before .before .before .before .before .before .before .before .before .is-lit .ensures) ∙ c .before .before .before .before .before .before .before .before .before .before .before .before .before .if1 .taken) at (c .before .before .before .before .before .before .before .before .lit-run .ensures)
+returns c = rw (sym (c .before .before .before .before .before .before .before .before .before .before .before .before .before .before .before-graphics .ensures) ∙ c .before .before .before .before .before .before .before .before .before .before .before .before .before .if1 .taken) at (c .before .before .before .before .before .before .before .before .lit-run .ensures)
 
 dark-run-requires : tie.Need-dark-run-requires
 dark-run-requires c κs = search needs
@@ -40,13 +40,13 @@ same-length-8 : tie.Need-same-length-8
 same-length-8 c = search needs
 
 returns-2 : tie.Need-returns-2
-returns-2 c = rw (sym (c .before .before .before .before .before .before .before .before .before .before .before .before .before .before .is-lit .ensures) ∙ c .before .before .before .before .before .before .before .before .before .before .before .before .before .if1 .left) at (c .before .before .before .before .before .before .before .before .dark-run .ensures)
+returns-2 c = rw (sym (c .before .before .before .before .before .before .before .before .before .before .before .before .before .before .before-graphics .ensures) ∙ c .before .before .before .before .before .before .before .before .before .before .before .before .before .if1 .left) at (c .before .before .before .before .before .before .before .before .dark-run .ensures)
 
 pub stage-spec : {M : Type 1} → statement M
 stage-spec =
     tie.close
     (tie.spec
-    is-lit-requires
+    before-graphics-requires
     lit-run-requires
     same-length
     same-length-2

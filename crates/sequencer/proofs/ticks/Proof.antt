@@ -1,6 +1,6 @@
 use mathlib.Core.Path.{sym, _∙_}
-use borrow.Author.Tests.{not-true, not-false}
 use Rattle.memory.specs.Lent.{host}
+use Rattle.chip.proofs.Fine.{taken-accepted}
 use Rattle.sequencer.proofs.Runs.{no-ticks, lent-first, state-first}
 use borrow.Author.Needs.{needs}
 use Rattle.sequencer.proofs.ticks.Statement.{statement}
@@ -15,17 +15,17 @@ lent-refusal-requires c κs = search needs
 returns-2 : tie.Need-returns-2
 returns-2 c = lent-first (host (c .before .before .before .before .before .before .args .ram .now) (c .before .before .before .before .before .before .args .rom .now) (c .before .before .before .before .before .before .args .colour .now) (c .before .before .before .before .before .before .args .bank)) (c .before .before .before .before .before .before .args .chip) (c .before .before .before .before .before .before .args .n) (c .before .lent-refusal .ensures) (c .if2 .taken) (c .before .before .if1 .left)
 
-is-accepted-requires : tie.Need-is-accepted-requires
-is-accepted-requires c κs = search needs
+state-refusal-requires : tie.Need-state-refusal-requires
+state-refusal-requires c κs = search needs
 
 returns-3 : tie.Need-returns-3
 returns-3 c =
     let ok = sym (c .before .before .before .lent-refusal .ensures) ∙ c .before .before .if2 .left in
-    state-first (host (c .before .before .before .before .before .before .before .before .args .ram .now) (c .before .before .before .before .before .before .before .before .args .rom .now) (c .before .before .before .before .before .before .before .before .args .colour .now) (c .before .before .before .before .before .before .before .before .args .bank)) (c .before .before .before .before .before .before .before .before .args .chip) (c .before .before .before .before .before .before .before .before .args .n) ok (sym (c .before .is-accepted .ensures) ∙ not-true _ (c .if3 .taken)) (c .before .before .before .before .if1 .left)
+    state-first (host (c .before .before .before .before .before .before .before .before .args .ram .now) (c .before .before .before .before .before .before .before .before .args .rom .now) (c .before .before .before .before .before .before .before .before .args .colour .now) (c .before .before .before .before .before .before .before .before .args .bank)) (c .before .before .before .before .before .before .before .before .args .chip) (c .before .before .before .before .before .before .before .before .args .n) ok (c .before .state-refusal .ensures) (c .if3 .taken) (c .before .before .before .before .if1 .left)
 
 run-parts-requires : tie.Need-run-parts-requires
 run-parts-requires c κs =
-    (sym (c .before .before .before .before .before .before .lent-refusal .ensures) ∙ c .before .before .before .before .before .if2 .left, sym (c .before .before .before .before .is-accepted .ensures) ∙ not-false _ (c .before .before .before .if3 .left))
+    (sym (c .before .before .before .before .before .before .lent-refusal .ensures) ∙ c .before .before .before .before .before .if2 .left, taken-accepted _ (sym (c .before .before .before .before .state-refusal .ensures) ∙ c .before .before .before .if3 .left))
 
 returns-4 : tie.Need-returns-4
 returns-4 c = search needs
@@ -37,7 +37,7 @@ ticks-spec =
     returns
     lent-refusal-requires
     returns-2
-    is-accepted-requires
+    state-refusal-requires
     returns-3
     run-parts-requires
     returns-4)

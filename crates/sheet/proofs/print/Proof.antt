@@ -9,18 +9,18 @@ use Rattle.sheet.proofs.print.Statement.{statement}
 use Rattle.sheet.proofs.print.Tie as tie
 
 abbrev Inv-loop : tie.InvT-loop
-Inv-loop input ram₀ rom₀ colour₀ out₀ run₀ ram rom colour out run =
+Inv-loop kind input ram₀ rom₀ colour₀ out₀ run₀ ram rom colour out run =
     Prints input (store ram₀ rom₀ colour₀) run₀ (store ram rom colour) run out
     × (length ram ≡ length ram₀) × (length rom ≡ length rom₀) × (length colour ≡ length colour₀) × (length out ≡ length out₀)
 
 abbrev μ-loop : tie.MeasureT-loop
-μ-loop input ram₀ rom₀ colour₀ out₀ run₀ ram rom colour out run = ahead input run
+μ-loop kind input ram₀ rom₀ colour₀ out₀ run₀ ram rom colour out run = ahead input run
 
 begun-requires : tie.Need-begun-requires Inv-loop μ-loop
 begun-requires c κs = search needs
 
 loop-holds : tie.Need-loop-holds Inv-loop μ-loop
-loop-holds c = (nothing-yet _ _ _ _ (c .begun .ensures), search needs, search needs, search needs, search needs)
+loop-holds c = (nothing-yet _ _ _ _ _ (c .begun .ensures), search needs, search needs, search needs, search needs)
 
 fill-requires : tie.Need-fill-requires Inv-loop μ-loop
 fill-requires c κs = omega (arith, c .before .before .before .before .before .loop .inv .4, c .before .before .before .before .before .before .before .before .before .before .before .before .pre)
@@ -53,7 +53,7 @@ returns : tie.Need-returns Inv-loop μ-loop
 returns c =
     let p = c .before .loop .inv .0 in
     let b = c .before .before .begun .ensures in
-    (c .loop-test .left, (all-ended _ _ _ _ _ _ p b (c .loop-test .left), all-printed _ _ _ _ _ _ p b (c .loop-test .left)))
+    (c .loop-test .left, (all-ended _ _ _ _ _ _ _ p b (c .loop-test .left), all-printed _ _ _ _ _ _ _ p b (c .loop-test .left)))
 
 pub print-spec : {M : Type 1} → statement M
 print-spec =

@@ -1,6 +1,7 @@
 use mathlib.Core.Path.{sym, _∙_}
 use Rattle.schedule.proofs.Parts.{dark, between}
 use Rattle.side.proofs.Parts.{border-between}
+use Rattle.schedule.specs.Kind.{kindOf}
 use borrow.Author.Needs.{needs}
 use Rattle.side.proofs.border_dark.Statement.{statement}
 use Rattle.side.proofs.border_dark.Tie as tie
@@ -11,9 +12,9 @@ between-requires c κs = search needs
 returns : tie.Need-returns
 returns c =
     let start = c .before .before in
-    border-between (start .args .cycle) (start .args .raster) (start .args .den) (start .args .csel) (start .args .b)
+    border-between (kindOf (start .args .kind)) (start .args .cycle) (start .args .raster) (start .args .den) (start .args .csel) (start .args .b)
     (dark (start .args .cycle) (start .pre .0) (start .pre .1))
-    (between (start .args .cycle) (start .pre .0) (sym (c .before .between .ensures) ∙ c .if1 .taken))
+    (between (kindOf (start .args .kind)) (start .args .cycle) (start .pre .0) (sym (c .before .between .ensures) ∙ c .if1 .taken))
 
 border-ends-requires : tie.Need-border-ends-requires
 border-ends-requires c κs = search needs

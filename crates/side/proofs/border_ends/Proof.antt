@@ -1,5 +1,6 @@
 use Rattle.schedule.proofs.Parts.{dark}
 use Rattle.side.proofs.Parts.{border-ends}
+use Rattle.schedule.specs.Kind.{kindOf}
 use borrow.Author.Needs.{needs}
 use Rattle.side.proofs.border_ends.Statement.{statement}
 use Rattle.side.proofs.border_ends.Tie as tie
@@ -20,7 +21,7 @@ returns : tie.Need-returns
 returns c =
     let start = c .before .before .before .before in
     rw (c .border-end .ensures, c .before .border-right40 .ensures, c .before .before .border-right38 .ensures, c .before .before .before .border-begin .ensures)
-    (border-ends (start .args .cycle) (start .args .raster) (start .args .den) (start .args .csel) (start .args .b) (dark (start .args .cycle) (start .pre .0) (start .pre .1)))
+    (border-ends (kindOf (start .args .kind)) (start .args .cycle) (start .args .raster) (start .args .den) (start .args .csel) (start .args .b) (dark (start .args .cycle) (start .pre .0) (start .pre .1)))
 
 pub border-ends-spec : {M : Type 1} → statement M
 border-ends-spec =

@@ -1,6 +1,7 @@
 use mathlib.Core.Path.{sym, _∙_}
-use Rattle.schedule.proofs.Parts.{lit, lit-small, past}
+use Rattle.schedule.proofs.Parts.{slotless, lit, lit-small, past}
 use Rattle.side.proofs.Parts.{border-past}
+use Rattle.schedule.specs.Kind.{kindOf}
 use borrow.Author.Needs.{needs}
 use Rattle.side.proofs.border_lit.Statement.{statement}
 use Rattle.side.proofs.border_lit.Tie as tie
@@ -11,7 +12,7 @@ past-requires c κs = search needs
 returns : tie.Need-returns
 returns c =
     let start = c .before .before in
-    border-past (start .args .cycle) (start .args .raster) (start .args .den) (start .args .csel) (start .args .b) (lit (start .args .cycle) (start .pre))
+    border-past (kindOf (start .args .kind)) (start .args .cycle) (start .args .raster) (start .args .den) (start .args .csel) (start .args .b) (lit (start .args .cycle) (start .pre)) (slotless (kindOf (start .args .kind)) (start .args .cycle) (start .pre))
     (past (start .args .cycle) (lit-small (start .args .cycle) (start .pre)) (sym (c .before .past .ensures) ∙ c .if1 .taken))
 
 border-left-requires : tie.Need-border-left-requires

@@ -1,5 +1,6 @@
-use Rattle.schedule.proofs.Parts.{lit}
+use Rattle.schedule.proofs.Parts.{slotless}
 use Rattle.side.proofs.Parts.{sprites-lit}
+use Rattle.schedule.specs.Kind.{kindOf}
 use borrow.Author.Needs.{needs}
 use Rattle.side.proofs.sprites_lit.Statement.{statement}
 use Rattle.side.proofs.sprites_lit.Tie as tie
@@ -14,7 +15,7 @@ returns : tie.Need-returns
 returns c =
     let start = c .before .before in
     rw (c .sprites-first .ensures, c .before .sprites-step .ensures)
-    (sprites-lit (start .args .cycle) (start .args .raster) (start .args .my) (start .args .enable) (start .args .yexp) (start .args .s) (lit (start .args .cycle) (start .pre)))
+    (sprites-lit (kindOf (start .args .kind)) (start .args .cycle) (start .args .raster) (start .args .my) (start .args .enable) (start .args .yexp) (start .args .s) (slotless (kindOf (start .args .kind)) (start .args .cycle) (start .pre)))
 
 pub sprites-lit-spec : {M : Type 1} → statement M
 sprites-lit-spec = tie.close (tie.spec sprites-step-requires sprites-first-requires returns)

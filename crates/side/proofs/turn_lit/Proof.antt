@@ -1,5 +1,9 @@
-use Rattle.schedule.proofs.Parts.{lit}
-use Rattle.side.proofs.Parts.{lit-glue}
+use mathlib.Core.Path.{sym}
+use native.Mathlib.Omega.{arith}
+use Rattle.schedule.specs.Kind.{kindOf}
+use Rattle.schedule.proofs.Parts.{lit, slotless}
+use Rattle.timing.proofs.Kept.{before-most, lit-next}
+use Rattle.side.proofs.Parts.{lit-glue, lit-now}
 use borrow.Author.Needs.{needs}
 use Rattle.side.proofs.turn_lit.Statement.{statement}
 use Rattle.side.proofs.turn_lit.Tie as tie
@@ -7,23 +11,37 @@ use Rattle.side.proofs.turn_lit.Tie as tie
 clocked-requires : tie.Need-clocked-requires
 clocked-requires c κs = search needs
 
-next-cycle-requires : tie.Need-next-cycle-requires
-next-cycle-requires c κs = search needs
+add-cycle : tie.Need-add-cycle
+add-cycle c =
+    let start = c .before .before .before .before .before .before .before .before .before .before .before in
+    omega (arith, before-most (start .args .side .beam .cycle) (start .pre .1))
 
 latched-requires : tie.Need-latched-requires
 latched-requires c κs = search needs
 
 border-lit-requires : tie.Need-border-lit-requires
-border-lit-requires c κs = rw (c .before .next-cycle .ensures) (c .before .before .before .before .before .before .before .before .before .before .before .before .pre .1)
+border-lit-requires c κs =
+    let start = c .before .before .before .before .before .before .before .before .before .before .before .before in
+    let k = kindOf (start .args .side .beam .kind) in
+    let before = start .args .side .beam .cycle in
+    lit-now k before (sym (lit-next k before (start .pre .1))) (start .pre .1)
 
 sprites-lit-requires : tie.Need-sprites-lit-requires
-sprites-lit-requires c κs = rw (c .before .before .next-cycle .ensures) (c .before .before .before .before .before .before .before .before .before .before .before .before .before .pre .1)
+sprites-lit-requires c κs =
+    let start = c .before .before .before .before .before .before .before .before .before .before .before .before .before in
+    let k = kindOf (start .args .side .beam .kind) in
+    let before = start .args .side .beam .cycle in
+    lit-now k before (sym (lit-next k before (start .pre .1))) (start .pre .1)
 
 turn-requires : tie.Need-turn-requires
 turn-requires c κs = search needs
 
 asked-lit-requires : tie.Need-asked-lit-requires
-asked-lit-requires c κs = rw (c .before .before .before .before .next-cycle .ensures) (c .before .before .before .before .before .before .before .before .before .before .before .before .before .before .before .pre .1)
+asked-lit-requires c κs =
+    let start = c .before .before .before .before .before .before .before .before .before .before .before .before .before .before .before in
+    let k = kindOf (start .args .side .beam .kind) in
+    let before = start .args .side .beam .cycle in
+    lit-now k before (sym (lit-next k before (start .pre .1))) (start .pre .1)
 
 arbitrate-requires : tie.Need-arbitrate-requires
 arbitrate-requires c κs = search needs
@@ -35,7 +53,11 @@ has-bit-requires : tie.Need-has-bit-requires
 has-bit-requires c κs = search needs
 
 turn-lit-requires : tie.Need-turn-lit-requires
-turn-lit-requires c κs = rw (c .before .before .before .before .before .before .before .before .next-cycle .ensures) (c .before .before .before .before .before .before .before .before .before .before .before .before .before .before .before .before .before .before .before .pre .1)
+turn-lit-requires c κs =
+    let start = c .before .before .before .before .before .before .before .before .before .before .before .before .before .before .before .before .before .before .before in
+    let k = kindOf (start .args .side .beam .kind) in
+    let before = start .args .side .beam .cycle in
+    lit-now k before (sym (lit-next k before (start .pre .1))) (start .pre .1)
 
 next-pending-requires : tie.Need-next-pending-requires
 next-pending-requires c κs = search needs
@@ -43,10 +65,13 @@ next-pending-requires c κs = search needs
 returns : tie.Need-returns
 returns c =
     let start = c .before .before .before .before .before .before .before .before .before .before .before .before .before .before .before .before .before .before .before .before .before .before .before .before .before .before .before .before in
-    lit-glue (start .args .g) (start .args .side)
-    (lit _ (rw (c .before .before .before .before .before .before .before .before .before .before .before .before .before .before .before .before .before .next-cycle .ensures) (start .pre .1)))
+    let k = kindOf (start .args .side .beam .kind) in
+    let before = start .args .side .beam .cycle in
+    let next = sym (lit-next k before (start .pre .1)) in
+    let now = lit-now k before next (start .pre .1) in
+    lit-glue (start .args .g) (start .args .side) (lit _ now) (slotless k _ now)
     (c .before .before .before .before .before .before .before .before .before .before .before .before .before .before .before .before .before .before .clocked .ensures)
-    (c .before .before .before .before .before .before .before .before .before .before .before .before .before .before .before .before .before .next-cycle .ensures)
+    next
     (c .before .before .before .before .before .before .before .before .before .before .before .before .before .before .before .before .latched .ensures)
     (c .before .before .before .before .before .before .before .before .before .before .before .before .before .before .before .border-lit .ensures)
     (c .before .before .before .before .before .before .before .before .before .before .before .before .before .before .sprites-lit .ensures)
@@ -63,7 +88,7 @@ turn-lit-spec =
     tie.close
     (tie.spec
     clocked-requires
-    next-cycle-requires
+    add-cycle
     latched-requires
     border-lit-requires
     sprites-lit-requires

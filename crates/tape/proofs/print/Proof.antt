@@ -11,13 +11,13 @@ use Rattle.tape.proofs.print.Statement.{statement}
 use Rattle.tape.proofs.print.Tie as tie
 
 abbrev Inv-loop : tie.InvT-loop
-Inv-loop input ram₀ rom₀ colour₀ out₀ start tape₀ ram rom colour out tape =
-    Prints input (store ram₀ rom₀ colour₀) (store ram rom colour) tape out
+Inv-loop kind input ram₀ rom₀ colour₀ out₀ start tape₀ ram rom colour out tape =
+    Prints kind input (store ram₀ rom₀ colour₀) (store ram rom colour) tape out
     × (tape .at ≤ length out)
     × (length ram ≡ length ram₀) × (length rom ≡ length rom₀) × (length colour ≡ length colour₀) × (length out ≡ length out₀)
 
 abbrev μ-loop : tie.MeasureT-loop
-μ-loop input ram₀ rom₀ colour₀ out₀ start tape₀ ram rom colour out tape = ahead input (tape .run)
+μ-loop kind input ram₀ rom₀ colour₀ out₀ start tape₀ ram rom colour out tape = ahead input (tape .run)
 
 declare-requires : tie.Need-declare-requires Inv-loop μ-loop
 declare-requires c κs = omega (arith, c .before .before .before .before .before .before .pre)
@@ -28,7 +28,7 @@ begun-requires c κs = search needs
 loop-holds : tie.Need-loop-holds Inv-loop μ-loop
 loop-holds c =
     let e = c .before .before .before .declare .ensures in
-    (begins _ _ _ _ _ _ (e .0) (record { place = omega (arith, e .0, declarations-292); text = e .1 }) (omega (arith, c .before .before .before .before .before .before .before .before .before .before .pre)) (c .begun .ensures), omega (arith, begun-at _ _ (c .begun .ensures), e .0, c .before .before .out .given, c .before .before .before .before .before .before .before .before .before .before .pre), search needs, search needs, search needs, search needs)
+    (begins _ _ _ _ _ _ _ (e .0) (record { place = omega (arith, e .0, declarations-292); text = e .1 }) (omega (arith, c .before .before .before .before .before .before .before .before .before .before .pre)) (c .begun .ensures), omega (arith, begun-at _ _ _ (c .begun .ensures), e .0, c .before .before .out .given, c .before .before .before .before .before .before .before .before .before .before .pre), search needs, search needs, search needs, search needs)
 
 with-room-requires : tie.Need-with-room-requires Inv-loop μ-loop
 with-room-requires c κs = c .before .before .loop .inv .1
@@ -44,7 +44,7 @@ loop-less c =
     let room = c .before .before .before .before .before .before .before .before .before .before .before .before .before .before .before .before .with-room .ensures in
     let e = c .before .before .before .before .before .before .before .before .turn .ensures in
     let loop = c .before .before .before .before .before .before .before .before .before .before .before .before .before .before .before .before .before .before .before .loop in
-    step-less _ _ room _ _ _ _ (loop .inv .0) (c .before .before .before .before .before .before .before .before .before .before .before .before .before .before .before .before .before .before .loop-test .taken) _ _ _ _ (c .before .before .before .before .before .before .before .before .before .before .before .before .before .next .ensures) (e .1 .0) (e .1 .1 .0) (e .1 .1 .1) (omega (arith, e .0, room-fits _ _ room, loop .inv .5, c .before .before .before .before .before .before .before .before .before .before .before .before .before .before .before .before .before .before .before .before .before .before .out .given, c .before .before .before .before .before .before .before .before .before .before .before .before .before .before .before .before .before .before .before .before .before .before .before .before .before .before .before .before .before .before .pre))
+    step-less _ _ room _ _ _ _ _ (loop .inv .0) (c .before .before .before .before .before .before .before .before .before .before .before .before .before .before .before .before .before .before .loop-test .taken) _ _ _ _ (c .before .before .before .before .before .before .before .before .before .before .before .before .before .next .ensures) (e .1 .0) (e .1 .1 .0) (e .1 .1 .1) (omega (arith, e .0, room-fits _ _ room, loop .inv .5, c .before .before .before .before .before .before .before .before .before .before .before .before .before .before .before .before .before .before .before .before .before .before .out .given, c .before .before .before .before .before .before .before .before .before .before .before .before .before .before .before .before .before .before .before .before .before .before .before .before .before .before .before .before .before .before .pre))
 
 loop-again : tie.Need-loop-again Inv-loop μ-loop
 loop-again c =
@@ -52,7 +52,7 @@ loop-again c =
     let e = c .before .before .before .before .before .before .before .before .turn .ensures in
     let loop = c .before .before .before .before .before .before .before .before .before .before .before .before .before .before .before .before .before .before .before .loop in
     let fits = room-fits _ _ room in
-    (stepped _ _ room _ _ _ _ (loop .inv .0) (c .before .before .before .before .before .before .before .before .before .before .before .before .before .before .before .before .before .before .loop-test .taken) _ _ _ _ (c .before .before .before .before .before .before .before .before .before .before .before .before .before .next .ensures) (e .1 .0) (e .1 .1 .0) (e .1 .1 .1) (omega (arith, e .0, fits, loop .inv .5, c .before .before .before .before .before .before .before .before .before .before .before .before .before .before .before .before .before .before .before .before .before .before .out .given, c .before .before .before .before .before .before .before .before .before .before .before .before .before .before .before .before .before .before .before .before .before .before .before .before .before .before .before .before .before .before .pre)), omega (arith, e .0, fits, loop .inv .5, c .before .out2 .given, c .before .before .before .before .before .before .before .before .before .before .before .before .before .before .before .before .before .before .before .before .before .before .out .given, c .before .before .before .before .before .before .before .before .before .before .before .before .before .before .before .before .before .before .before .before .before .before .before .before .before .before .before .before .before .before .pre), omega (arith, c .before .before .before .before .before .before .before .ram .given, loop .inv .2), omega (arith, c .before .before .before .before .before .rom .given, loop .inv .3), omega (arith, c .before .before .before .colour .given, loop .inv .4), omega (arith, c .before .out2 .given, loop .inv .5))
+    (stepped _ _ room _ _ _ _ _ (loop .inv .0) (c .before .before .before .before .before .before .before .before .before .before .before .before .before .before .before .before .before .before .loop-test .taken) _ _ _ _ (c .before .before .before .before .before .before .before .before .before .before .before .before .before .next .ensures) (e .1 .0) (e .1 .1 .0) (e .1 .1 .1) (omega (arith, e .0, fits, loop .inv .5, c .before .before .before .before .before .before .before .before .before .before .before .before .before .before .before .before .before .before .before .before .before .before .out .given, c .before .before .before .before .before .before .before .before .before .before .before .before .before .before .before .before .before .before .before .before .before .before .before .before .before .before .before .before .before .before .pre)), omega (arith, e .0, fits, loop .inv .5, c .before .out2 .given, c .before .before .before .before .before .before .before .before .before .before .before .before .before .before .before .before .before .before .before .before .before .before .out .given, c .before .before .before .before .before .before .before .before .before .before .before .before .before .before .before .before .before .before .before .before .before .before .before .before .before .before .before .before .before .before .pre), omega (arith, c .before .before .before .before .before .before .before .ram .given, loop .inv .2), omega (arith, c .before .before .before .before .before .rom .given, loop .inv .3), omega (arith, c .before .before .before .colour .given, loop .inv .4), omega (arith, c .before .out2 .given, loop .inv .5))
 
 flush-requires : tie.Need-flush-requires Inv-loop μ-loop
 flush-requires c κs = c .before .before .loop .inv .1
@@ -73,7 +73,7 @@ returns : tie.Need-returns Inv-loop μ-loop
 returns c =
     let p = c .before .before .before .loop .inv .0 in
     let done = c .before .before .loop-test .left in
-    (run-is _ _ _ _ _ p done, (store-is _ _ _ _ _ p done, ends _ _ _ _ _ p done))
+    (run-is _ _ _ _ _ _ p done, (store-is _ _ _ _ _ _ p done, ends _ _ _ _ _ _ p done))
 
 pub print-spec : {M : Type 1} → statement M
 print-spec =

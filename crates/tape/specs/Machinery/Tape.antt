@@ -37,8 +37,8 @@ abbrev pub tape : Run → Wave → ℕ → Tape
 tape r w at = record { run = r; wave = w; at = at }
 
 -- the declarations are written
-unfoldable pub begunOf : ℕ → Tape
-begunOf at = tape driveBegun fresh at
+unfoldable pub begunOf : ℕ → ℕ → Tape
+begunOf kind at = tape (driveBegun kind) fresh at
 
 -- where 292 of the block's 65,536 bytes are not free, the block is written out
 unfoldable pub roomed : Tape → Tape

@@ -1,0 +1,28 @@
+use mathlib.Core.Path.{refl, ap}
+use Prim.Native.Nat.{ℕ}
+use mathlib.Core.List.{[], _∷_}
+use Rattle.scene.proofs.Parts.{put-as}
+use borrow.Author.Needs.{needs}
+use Rattle.scene.proofs.put_tail.Statement.{statement}
+use Rattle.scene.proofs.put_tail.Tie as tie
+
+place-byte-requires : tie.Need-place-byte-requires
+place-byte-requires c κs = search needs
+
+slice-aggregate-put : tie.Need-slice-aggregate-put
+slice-aggregate-put c = search needs
+
+put-requires : tie.Need-put-requires
+put-requires c κs = search needs
+
+same-length : tie.Need-same-length
+same-length c = search needs
+
+returns : tie.Need-returns
+returns c =
+    let kind = c .before .before .before .before .before .before .before .args .kind in
+    put-as _ 309 (c .before .before .put .ensures) (ap (λ (x : ℕ). x ∷ kind ∷ []) (c .before .before .before .before .before .place-byte .ensures)) refl
+
+pub put-tail-spec : {M : Type 1} → statement M
+put-tail-spec =
+    tie.close (tie.spec place-byte-requires slice-aggregate-put put-requires same-length returns)
