@@ -1,13 +1,14 @@
--- An older scene as the next version: its version, its bytes, and that it is as fine as before. Assumes nothing.
+-- An older scene as the next version: its number, the byte that it gets, that it is as fine as before, and that bytes stay bytes. Assumes nothing.
 use Prim.Native.Nat.{ℕ, zero, suc, _+_, _<_, _≤_}
-use mathlib.Core.Path.{_≡_, sym, ap}
+use mathlib.Core.Path.{_≡_, sym, ap, _∙_}
 use mathlib.Core.Bool.{true}
 use mathlib.Core.List.{List, [], _∷_, _++_}
 use native.Mathlib.Omega.{arith}
 use lib.ListN.{length, set, length-append, length-set}
-use lib.Seq.{getD-set-same}
+use lib.Seq.{getD-set-same, getD-set-other, getD-at}
 use borrow.Author.Tests.{eq-eqb}
 use Rattle.laws.proofs.Choice.{either}
+use Rattle.scene.specs.Numbers.{byteAt}
 use Rattle.scene.specs.Versions.{isVersion, grown, next}
 use Rattle.scene.specs.Decode.{fieldsFine}
 use Rattle.scene.specs.Saved.{Bytes}
@@ -19,6 +20,9 @@ pub grown-is : (v more : ℕ) (s : List ℕ) (n : ℕ) → 3 < length s → leng
 grown-is v more s n h e =
     let long : length (grown v more s) ≡ n = simp (length-set, length-append) e in
     rw (eq-eqb (length (grown v more s)) n long, getD-set-same (s ++ (more ∷ [])) 3 v 0 (simp length-append (omega arith)), eq-eqb v v)
+
+pub grown-last : (v more : ℕ) (s : List ℕ) (n : ℕ) → 3 < n → length s ≡ n → byteAt (grown v more s) n ≡ more
+grown-last v more s n h e = getD-set-other (s ++ (more ∷ [])) 3 n v 0 (λ (f : n ≡ 3). omega arith) ∙ getD-at s more [] 0 n e
 
 -- no test reads the version or what lies behind the bytes of version 1
 pub grown-fine : (v more : ℕ) (s : List ℕ) → 308 ≤ length s → fieldsFine (grown v more s) ≡ fieldsFine s

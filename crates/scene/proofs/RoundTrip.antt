@@ -15,8 +15,7 @@ use Rattle.scene.specs.Versions.{isVersion, isNewest, grown, next, renew
 use Rattle.scene.specs.Decode.{chipAt, fieldsFine, noScene, decoded, decodedFields, decodedNewest}
 use Rattle.scene.specs.Encode.{encoded}
 use Rattle.scene.specs.Saved.{Saved, Bytes}
-use Rattle.scene.proofs.Listed.{listed}
-use Rattle.scene.proofs.Renewed.{grown-is, grown-fine, next-bytes}
+use Rattle.scene.proofs.Renewed.{grown-is, grown-last, grown-fine, next-bytes}
 use Rattle.scene.proofs.Back as back
 use Rattle.scene.proofs.Again.{chip-again, chip-saved}
 
@@ -83,4 +82,4 @@ decoded-is-saved s b e = rw (held s e) (chip-saved (renewed s) (renewed-bytes s 
 pub version-1-is-6569 : (s : List ℕ) → isVersion 1 308 s ≡ true → decoded s .scene ≡ true → (decoded s .chip ≡ chipAt (renewed s)) × (chipAt (renewed s) .side .beam .kind ≡ 0)
 unfolding renewed next
 version-1-is-6569 s v e =
-    (held s e, rw v (ap (λ (l : List ℕ). byteAt (grown 2 0 l) 308) (sym (listed 0 s 308 (has-size 1 308 s v)))))
+    (held s e, rw v (grown-last 2 _ s 308 (omega arith) (has-size 1 308 s v)))

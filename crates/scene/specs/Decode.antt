@@ -192,7 +192,7 @@ pictureAt s =
 abbrev pub chipAt : List ℕ → Chip
 chipAt s = record { regs = registersAt s; side = sideAt s; picture = pictureAt s }
 
--- FORMATS, Scene: not a scene is another head; a flag above 1; a mode above 7; a pending place that is neither 255 nor 0 to 39; a length or version that none has
+-- FORMATS, Scene: not a scene is another length, head or version; a flag above 1; a mode above 7; a pending place that is neither 255 nor 0 to 39
 
 abbrev pub headFine : List ℕ → Bool
 headFine s = eqb (byteAt s 0) 78 && eqb (byteAt s 1) 80 && eqb (byteAt s 2) 83
