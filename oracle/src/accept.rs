@@ -1,13 +1,14 @@
-//! Which states a tick takes (docs/SCOPE.md, "States we accept").
+//! Which states a tick takes (docs/SCOPE.md, "States we accept"), by their kind.
 
+use crate::chip::{Refusal, NOT_ACCEPTED, UNKNOWN_KIND};
+use crate::kind::known;
 use crate::scene::State;
 
 /// The highest clock and forced clock: 2 to the power of 62.
 pub const CLOCK_LIMIT: i64 = 4_611_686_018_427_387_904;
 
 pub fn accepted(s: &State) -> bool {
-    (1..=63).contains(&s.cycle)
-        && s.raster <= 311
+    known(s.kind).is_some_and(|column| (1..=column.last_cycle).contains(&s.cycle) && s.raster <= column.last_line)
         && s.compare <= 511
         && (-1..=3).contains(&s.aec_counter)
         && s.vc <= 1023
@@ -17,6 +18,17 @@ pub fn accepted(s: &State) -> bool {
         && clock_in_range(s.clock)
         && clock_in_range(s.forced_clock)
         && s.sprites.iter().enumerate().all(|(k, sprite)| sprite.number as usize == k && sprite.mc <= 63 && sprite.base <= 63)
+}
+
+/// What a tick and a late byte ask of a state: a known kind, and then all the rest.
+pub fn takes(s: &State) -> Result<(), Refusal> {
+    if known(s.kind).is_none() {
+        Err(UNKNOWN_KIND)
+    } else if !accepted(s) {
+        Err(NOT_ACCEPTED)
+    } else {
+        Ok(())
+    }
 }
 
 /// An ordinary bad line clears VMLI in cycle 14 and moves it on in 16 to 55, to 40.

@@ -1,15 +1,20 @@
-//! Questions that a replay case has no room for: the input of the port's program `ask`, made and answered with the original.
+//! Questions that a replay case has no room for: the input of the port's program `ask`, made and answered with the original, and
+//! by the model where another kind is asked.
 //!
 //! Where docs/DIFFERENCES.md has the port leave the original, the original is asked all the same and must do what that page
 //! says of it; the answer is then the port's. Nothing else is put right.
 
 use crate::accept::CLOCK_LIMIT;
 use crate::cases::{lend, Maker};
+use crate::chip::{Chip, Judges, Refusal, BANK_ABOVE_3, WRONG_LENGTH};
+use crate::kind::{column, MOS6567R8, MOS6569, UNKNOWN};
 use crate::memory::{Memory, COLOUR, RAM, ROM};
+use crate::model::powered;
 use crate::replay::{answer_case, create, fill, open, Case, BA_HIGH_AT_PHI1};
 use crate::scene::{State, SCENE};
-use crate::vic::glue::{Machine, Refusal, BANK_ABOVE_3, WRONG_LENGTH};
+use crate::vic::glue::Machine;
 use crate::vic::timing::VicTiming;
+use std::collections::HashMap;
 use std::fs;
 use std::io::{self, Write};
 use std::panic;
@@ -33,11 +38,12 @@ const LINES: u16 = 512;
 /// The original's forced clock at power-up (docs/DIFFERENCES.md, 13).
 const FORCED_AT_POWER_UP: i64 = -40;
 
-/// How many answers are the port's and not the original's, by their numbers in docs/DIFFERENCES.md.
+/// How many answers are the port's and not the original's, by their numbers in docs/DIFFERENCES.md, and how many the model's.
 #[derive(Default)]
 struct Departures {
     power_up: u64,
     line_above: u64,
+    model: u64,
 }
 
 /// Whether the original stops itself here; its message is not printed.
@@ -51,7 +57,7 @@ pub fn panics(act: impl FnOnce() + panic::UnwindSafe) -> bool {
 
 /// The request mask: the original's table is private, so each sprite is asked by itself.
 pub fn mask_at(machine: &mut Machine, cycle: u16) -> u8 {
-    machine.power_up();
+    machine.power_up(MOS6569);
     let powered = machine.state();
     let mut mask = 0;
     for k in 0..8 {
@@ -68,8 +74,11 @@ pub fn mask_at(machine: &mut Machine, cycle: u16) -> u8 {
     mask
 }
 
-/// The scene of power-up: the original's, and only its forced clock is another.
-fn power_up(departures: &mut Departures) -> io::Result<Vec<u8>> {
+/// The scene of power-up: the original's, and only its forced clock is another. Of another kind it is the model's.
+fn power_up(kind: u8, departures: &mut Departures) -> io::Result<Vec<u8>> {
+    if kind != MOS6569 {
+        return Ok(powered(kind).encode().to_vec());
+    }
     let mut state = Machine::original_power_up();
     if state.forced_clock != FORCED_AT_POWER_UP {
         return Err(io::Error::other("the original's forced clock at power-up is not that of difference 13"));
@@ -105,32 +114,59 @@ fn block(machine: &mut Machine, pointer: u8, bank: u8, ram: u16, rom: u16) -> Ve
     [&[0, 64], &machine.sprite_bytes(pointer, bank)[..]].concat()
 }
 
-fn display(machine: &mut Machine, given: &[u8; HEAD]) -> Vec<u8> {
+fn display(chip: &mut dyn Chip, given: &[u8; HEAD]) -> Vec<u8> {
     let odd = |place: usize| given[place] % 2 == 1;
     let forced = i64::from_le_bytes(given[5..].try_into().expect("eight bytes"));
-    let refusal = machine.place_display_at(odd(1), odd(2), odd(3), odd(4), forced).err().unwrap_or(0);
-    [&[refusal], &machine.state().encode()[..]].concat()
+    let refusal = chip.place_display([1, 2, 3, 4].map(odd), forced).err().unwrap_or(0);
+    [&[refusal], &chip.state().encode()[..]].concat()
+}
+
+/// What answers: both judges, and the original's masks as far as they were asked.
+struct Asked {
+    judges: Judges,
+    masks: HashMap<u16, u8>,
+}
+
+impl Asked {
+    /// The library's and the front end's for the kind, and the front end's that has no kind: the 6569's.
+    fn masks(&mut self, cycle: u16, kind: u8) -> Vec<u8> {
+        let theirs = *self.masks.entry(cycle).or_insert_with(|| mask_at(&mut self.judges.original, cycle));
+        let mask = if kind == MOS6569 { theirs } else { column(kind).mask(cycle) };
+        vec![mask, mask, theirs]
+    }
+}
+
+/// The kind that says who judges; the questions about bad lines, counts and blocks have none.
+fn kind_of(head: &[u8; HEAD], state: Option<&State>) -> u8 {
+    match head[0] {
+        POWER_UP => head[1],
+        MASK => head[3],
+        _ => state.map_or(MOS6569, |state| state.kind),
+    }
 }
 
 /// One answer; nothing where the question ends the run.
-fn told(machine: &mut Machine, head: &[u8; HEAD], state: Option<&State>, departures: &mut Departures) -> io::Result<Option<Vec<u8>>> {
+fn told(asked: &mut Asked, head: &[u8; HEAD], state: Option<&State>, departures: &mut Departures) -> io::Result<Option<Vec<u8>>> {
     let number = |place: usize| u16::from_le_bytes([head[place], head[place + 1]]);
+    let kind = kind_of(head, state);
+    departures.model += u64::from(kind != MOS6569);
+    let chip = asked.judges.of(kind);
     if let Some(state) = state {
-        machine.load(state);
+        chip.load(state);
     }
     Ok(Some(match head[0] {
-        POWER_UP => power_up(departures)?,
-        MASK => vec![mask_at(machine, number(1)); 2],
+        POWER_UP => power_up(kind, departures)?,
+        MASK => asked.masks(number(1), kind),
         BAD_LINE => bad_lines(number(1), head[3] != 0, departures)?,
         COUNT => vec![head[1].count_ones() as u8; 2],
         BLOCK if number(3) > LONGEST_RAM || number(5) > LONGEST_ROM => return Ok(None),
-        BLOCK => block(machine, head[1], head[2], number(3), number(5)),
+        BLOCK => block(&mut asked.judges.original, head[1], head[2], number(3), number(5)),
         WRITE => {
-            machine.write_at(number(1), head[3]);
-            machine.state().encode().to_vec()
+            chip.write(number(1), head[3]);
+            chip.state().encode().to_vec()
         }
-        READ => vec![machine.read_at(number(1), head[3], head[4])],
-        DISPLAY => display(machine, head),
+        READ => vec![chip.read(number(1), head[3], head[4])],
+        DISPLAY => display(chip, head),
         _ => return Ok(None),
     }))
 }
@@ -145,7 +181,7 @@ pub fn answer(input: &str, output: &str) -> io::Result<()> {
             return output.flush();
         }
     }
-    let mut machine = Machine::new(memory);
+    let mut asked = Asked { judges: Judges::new(memory, true), masks: HashMap::new() };
     let mut departures = Departures::default();
     loop {
         let mut head = [0; HEAD];
@@ -161,13 +197,13 @@ pub fn answer(input: &str, output: &str) -> io::Result<()> {
             let Some(decoded) = State::decode(&scene) else { break };
             state = Some(decoded);
         }
-        match told(&mut machine, &head, state.as_ref(), &mut departures)? {
+        match told(&mut asked, &head, state.as_ref(), &mut departures)? {
             Some(bytes) => output.write_all(&bytes)?,
             None => break,
         }
     }
     output.flush()?;
-    println!("{} by difference 13, {} by difference 14", departures.power_up, departures.line_above);
+    println!("{} by difference 13, {} by difference 14, {} by the model", departures.power_up, departures.line_above, departures.model);
     Ok(())
 }
 
@@ -193,16 +229,14 @@ const ROMS: [usize; 8] = [0, 1, 64, ROM - 64, ROM - 1, ROM, ROM + 1, LONGEST_ROM
 
 /// A register's question about any state: by this address, and with any bytes.
 fn register(maker: &mut Maker, kind: u8, address: u16) -> Vec<u8> {
-    let cycle = maker.random.within(1, 63) as u16;
-    let state = maker.any(cycle);
+    let state = maker.anything();
     let (x, y) = (maker.random.byte(), maker.random.byte());
     [numbered(kind, address, &[x, y]), state.encode().to_vec()].concat()
 }
 
 /// A display that is placed: the forced clock at an edge, near the state's clock, or anywhere.
 fn placed(maker: &mut Maker) -> Vec<u8> {
-    let cycle = maker.random.within(1, 63) as u16;
-    let state = maker.any(cycle);
+    let state = maker.anything();
     let r = &mut maker.random;
     let forced = match r.below(6) {
         0 | 1 => r.pick(&[
@@ -230,10 +264,10 @@ fn placed(maker: &mut Maker) -> Vec<u8> {
     [head(DISPLAY, &[&flags[..], &forced.to_le_bytes()].concat()), state.encode().to_vec()].concat()
 }
 
-/// The parts, a file each: all numbers where there are at most millions, and `count` placed displays.
-pub fn make(seed: u64, count: u64, folder: &str) -> io::Result<()> {
+/// The parts, a file each: all numbers where there are at most millions, and `count` placed displays; of one kind alone, or of all.
+pub fn make(seed: u64, count: u64, folder: &str, only: Option<u8>) -> io::Result<()> {
     fs::create_dir_all(folder)?;
-    let mut maker = Maker::new(seed);
+    let mut maker = Maker::new(seed, only);
     let memory = maker.memory().clone();
     let part = |name: &str, questions: &mut dyn Iterator<Item = Vec<u8>>| {
         let mut output = create(&Path::new(folder).join(format!("{name}.bin")).to_string_lossy())?;
@@ -245,8 +279,13 @@ pub fn make(seed: u64, count: u64, folder: &str) -> io::Result<()> {
     };
     let all = || 0..=u16::MAX;
     let bytes = || 0..=u8::MAX;
-    part("power-up", &mut [head(POWER_UP, &[])].into_iter())?;
-    part("mask", &mut all().map(|cycle| numbered(MASK, cycle, &[])))?;
+    let kinds = |of: &[u8]| only.map_or(of.to_vec(), |kind| vec![kind]);
+    part("power-up", &mut kinds(&bytes().collect::<Vec<u8>>()).into_iter().map(|kind| head(POWER_UP, &[kind])))?;
+    // Every number for both kinds and some of none; for each of the others a line's cycles and some more.
+    let whole = kinds(&[&[MOS6569, MOS6567R8], &UNKNOWN[..]].concat());
+    let every = whole.clone().into_iter().flat_map(|kind| all().map(move |cycle| numbered(MASK, cycle, &[kind])));
+    let rest = kinds(&bytes().collect::<Vec<u8>>()).into_iter().filter(|kind| !whole.contains(kind));
+    part("mask", &mut every.chain(rest.flat_map(|kind| (0..=130).map(move |cycle| numbered(MASK, cycle, &[kind])))))?;
     part("bad line", &mut all().flat_map(|raster| [0, 1].map(|latch| numbered(BAD_LINE, raster, &[latch]))))?;
     part("other latch", &mut (0..LINES).flat_map(|raster| (2..=255).map(move |latch| numbered(BAD_LINE, raster, &[latch]))))?;
     part("sprite count", &mut bytes().map(|dma| head(COUNT, &[dma])))?;
@@ -263,10 +302,17 @@ pub fn make(seed: u64, count: u64, folder: &str) -> io::Result<()> {
 /// A few of each kind, with the edges of each.
 pub fn make_sample(seed: u64, output: &str) -> io::Result<()> {
     let mut output = create(output)?;
-    let mut maker = Maker::new(seed);
+    let mut maker = Maker::new(seed, None);
     lend(maker.memory(), &mut output)?;
-    let mut questions = vec![head(POWER_UP, &[])];
-    questions.extend((0..=66).chain([127, 191, 255, 256, 256 + 63, 0x3F00 + 63, 0xFFFF]).map(|cycle| numbered(MASK, cycle, &[])));
+    let mut questions = Vec::new();
+    questions.extend([MOS6569, MOS6567R8, 2, 255].map(|kind| head(POWER_UP, &[kind])));
+    for kind in [MOS6569, MOS6567R8] {
+        let beyond = [127, 191, 195, 255, 256, 256 + 63, 256 + 65, 0x3F00 + 63, 0xFFFF];
+        questions.extend((0..=68).chain(beyond).map(|cycle| numbered(MASK, cycle, &[kind])));
+    }
+    for kind in [2, 255] {
+        questions.extend([0, 1, 10, 54, 55, 56, 62, 63, 64, 65].map(|cycle| numbered(MASK, cycle, &[kind])));
+    }
     for raster in [0, 0x2F, 0x30, 0x31, 0x37, 0xF0, 0xF7, 0xF8, 0x130, 311, 511, 512, 512 + 0x30, 0xFFFF] {
         questions.extend([0, 1, 2].map(|latch| numbered(BAD_LINE, raster, &[latch])));
     }

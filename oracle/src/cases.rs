@@ -1,49 +1,62 @@
 //! Makes cases for replay.
 
 use crate::accept::CLOCK_LIMIT;
+use crate::kind::{column, MOS6567R8, MOS6569, UNKNOWN};
 use crate::memory::Memory;
+use crate::model::Model;
 use crate::replay::*;
 use crate::rng::Rng;
-use crate::scene::{fields, Kind, State, HEAD};
+use crate::scene::{fields, Sort, State, HEAD, SCENE};
 use crate::states::*;
+use crate::vic::glue::Machine;
 use crate::walk::Walker;
 use std::fs;
 use std::io::{self, Write};
 use std::path::Path;
 
-/// Makes one case after another; ticks go through the 63 cycles in turn, so that each is met alike.
+/// Makes one case after another; ticks go through the cycles of their kind in turn, so that each is met alike.
 pub struct Maker {
     pub random: Rng,
+    /// One kind alone; else one case in three is of a 6567R8, and a few are of no kind.
+    only: Option<u8>,
     memory: Memory,
-    walker: Walker,
-    turn: u64,
+    /// Runs of a 6569 are the original's alone, without the stand-in of a late DEN.
+    original: Walker<Machine>,
+    model: Walker<Model>,
+    turns: [u64; 2],
     change: u64,
 }
 
 impl Maker {
-    pub fn new(seed: u64) -> Self {
+    pub fn new(seed: u64, only: Option<u8>) -> Self {
         let mut random = Rng::new(seed);
         let memory = memory(&mut random);
-        let walker = Walker::new(memory.clone());
-        Self { random, memory, walker, turn: 0, change: 0 }
+        let original = Walker::new(Machine::new(memory.clone()), MOS6569);
+        let model = Walker::new(Model::new(memory.clone(), MOS6567R8), MOS6567R8);
+        Self { random, only, memory, original, model, turns: [0; 2], change: 0 }
     }
 
     pub fn memory(&self) -> &Memory {
         &self.memory
     }
 
-    /// The state's cycle of the next case.
-    fn next_cycle(&mut self) -> u16 {
-        let cycle = 1 + self.turn % 63;
-        self.turn += 1;
-        cycle as u16
+    /// A kind for the next case.
+    fn next_kind(&mut self) -> u8 {
+        self.only.unwrap_or_else(|| if self.random.chance(1, 3) { MOS6567R8 } else { MOS6569 })
+    }
+
+    /// The state's cycle of the next tick.
+    fn next_cycle(&mut self, kind: u8) -> u16 {
+        let turn = &mut self.turns[usize::from(kind)];
+        *turn += 1;
+        1 + ((*turn - 1) % u64::from(column(kind).last_cycle)) as u16
     }
 
     /// An accepted state at this cycle, from a run or made up.
-    pub fn accepted(&mut self, cycle: u16) -> State {
+    pub fn accepted(&mut self, kind: u8, cycle: u16) -> State {
         let r = &mut self.random;
         if r.chance(1, 3) {
-            let mut s = self.walker.state_at(r, cycle);
+            let mut s = if kind == MOS6569 { self.original.state_at(r, cycle) } else { self.model.state_at(r, cycle) };
             // A clock far from power-up makes no other difference to a run.
             if r.chance(1, 8) {
                 let later = r.within(0, CLOCK_LIMIT - (1 << 40));
@@ -52,7 +65,7 @@ impl Maker {
             }
             return s;
         }
-        let mut s = accepted_state(r, cycle);
+        let mut s = accepted_state(r, kind, cycle);
         match r.below(8) {
             0..=2 if (15..=54).contains(&cycle) => bend_to_merge(r, &mut s),
             3 | 4 if (15..=54).contains(&cycle) => {
@@ -72,8 +85,8 @@ impl Maker {
     }
 
     /// A state for a call that asks for acceptance: mostly accepted, at times just past an edge.
-    fn nearly_accepted(&mut self, cycle: u16) -> State {
-        let mut s = self.accepted(cycle);
+    fn nearly_accepted(&mut self, kind: u8, cycle: u16) -> State {
+        let mut s = self.accepted(kind, cycle);
         if self.random.chance(1, 16) {
             bend_to_edge(&mut self.random, &mut s, true);
             // Two faults at once are refused as one.
@@ -81,38 +94,60 @@ impl Maker {
                 bend_to_edge(&mut self.random, &mut s, true);
             }
         } else if self.random.chance(1, 64) {
-            s = wild_state(&mut self.random);
+            s = wild_state(&mut self.random, kind);
         }
         s
     }
 
     /// A state for a call that takes any.
-    pub fn any(&mut self, cycle: u16) -> State {
+    fn any(&mut self, kind: u8, cycle: u16) -> State {
         if self.random.chance(1, 3) {
-            wild_state(&mut self.random)
+            wild_state(&mut self.random, kind)
         } else {
-            self.nearly_accepted(cycle)
+            self.nearly_accepted(kind, cycle)
+        }
+    }
+
+    /// The same, of any kind at any cycle of it.
+    pub fn anything(&mut self) -> State {
+        let kind = self.next_kind();
+        let cycle = self.random.within(1, column(kind).last_cycle.into()) as u16;
+        let mut state = self.any(kind, cycle);
+        self.lose_kind(&mut state, 12);
+        state
+    }
+
+    /// One state of so many is of an unknown kind.
+    fn lose_kind(&mut self, state: &mut State, whole: u64) {
+        let r = &mut self.random;
+        if self.only.is_none() && r.chance(1, whole) {
+            state.kind = if r.flag() { r.pick(&UNKNOWN) } else { r.within(2, 255) as u8 };
         }
     }
 
     pub fn next(&mut self) -> Case {
-        let call = if self.random.chance(3, 5) { TICK } else { self.random.within(1, 9) as u8 };
+        let call = if self.random.chance(3, 5) { TICK } else { self.random.pick(&OTHERS) };
+        let kind = self.next_kind();
         let mut arguments = [0; 4];
         self.random.fill(&mut arguments);
         let mut bank = self.random.below(4) as u8;
         let cycle = match call {
-            TICK => self.next_cycle(),
-            // The cycles with rules of their own, and their neighbours.
-            WRITE_Y_EXPAND if self.random.flag() => self.random.pick(&[14, 15, 15, 16, 54, 55, 55, 56]),
-            BA_HIGH_AT_PHI1 if self.random.chance(1, 3) => self.random.pick(&[54, 55, 56, 57]),
-            _ => self.random.within(1, 63) as u16,
+            TICK => self.next_cycle(kind),
+            // The cycles with rules of their own, of both kinds, and their neighbours.
+            WRITE_Y_EXPAND if self.random.flag() => self.random.pick(&[14, 15, 15, 16, 54, 55, 55, 56, 56, 57]),
+            BA_HIGH_AT_PHI1 if self.random.chance(1, 3) => self.random.pick(&[54, 55, 56, 57, 58]),
+            _ => self.random.within(1, column(kind).last_cycle.into()) as u16,
         };
         let mut state = match call {
-            TICK | LATE_BYTE => self.nearly_accepted(cycle),
-            _ => self.any(cycle),
+            TICK | LATE_BYTE => self.nearly_accepted(kind, cycle),
+            _ => self.any(kind, cycle),
         };
+        // It is refused before anything else that is wrong with the state; what refuses nothing goes on with it.
+        self.lose_kind(&mut state, if matches!(call, TICK | LATE_BYTE) { 40 } else { 12 });
         let r = &mut self.random;
         match call {
+            // The scene's own kind may be another: it is not looked at.
+            POWER_UP => arguments[0] = self.only.unwrap_or_else(|| if r.flag() { kind } else { arguments[0] }),
             // The masks share a bit with the request at times, and at times not.
             BA_HIGH_AT_PHI1 => {
                 state.ba_output_high |= r.chance(3, 4);
@@ -154,9 +189,9 @@ pub fn lend(memory: &Memory, output: &mut impl Write) -> io::Result<()> {
     output.write_all(&memory.colour[..])
 }
 
-pub fn make(seed: u64, count: u64, output: &str) -> io::Result<()> {
+pub fn make(seed: u64, count: u64, output: &str, only: Option<u8>) -> io::Result<()> {
     let mut output = create(output)?;
-    let mut maker = Maker::new(seed);
+    let mut maker = Maker::new(seed, only);
     lend(maker.memory(), &mut output)?;
     for _ in 0..count {
         output.write_all(&maker.next().encode())?;
@@ -164,55 +199,73 @@ pub fn make(seed: u64, count: u64, output: &str) -> io::Result<()> {
     output.flush()
 }
 
-/// The bytes of a case that may not be anything: place, and the values that make it no case.
-fn limits() -> Vec<(usize, u8, u8)> {
-    let call = (0, CALLS.len() as u8, 255);
-    let scene = fields().into_iter().filter_map(|field| match field.kind {
-        Kind::Number | Kind::Signed => None,
-        Kind::Flag => Some((6 + field.offset, 2, 255)),
-        Kind::Mode => Some((6 + field.offset, 8, 255)),
-        Kind::Place => Some((6 + field.offset, 40, 254)),
-    });
-    std::iter::once(call).chain(scene).collect()
+/// What makes a case none.
+#[derive(Clone, Copy)]
+enum End {
+    /// A byte past its values: place, and the first and the last of these.
+    Past(usize, u8, u8),
+    /// Another byte in the head.
+    Head(usize),
+    /// Another version of the scene, with its length: an old one, which `replay` does not take, or one to come.
+    Version(u8, usize),
+    Cut,
 }
 
-/// Makes a case that is none, each kind in turn: a byte past its values, another head, a cut. The first two rounds try
-/// the edges.
-fn spoil(r: &mut Rng, limits: &[(usize, u8, u8)], turn: usize, case: &mut Vec<u8>) {
-    let kinds = limits.len() + HEAD.len() + 1;
-    match turn % kinds {
-        k if k < limits.len() => {
-            let (place, low, high) = limits[k];
-            case[place] = match turn / kinds {
+/// Every end, so that each comes in its turn. The calls between those that there are stand by themselves.
+fn all_ends() -> Vec<End> {
+    let mut all: Vec<End> = (10..=11).map(|call| End::Past(0, call, call)).collect();
+    all.push(End::Past(0, POWER_UP + 1, 255));
+    all.extend(fields().into_iter().filter_map(|field| match field.sort {
+        Sort::Number | Sort::Signed => None,
+        Sort::Flag => Some(End::Past(6 + field.offset, 2, 255)),
+        Sort::Mode => Some(End::Past(6 + field.offset, 8, 255)),
+        Sort::Place => Some(End::Past(6 + field.offset, 40, 254)),
+    }));
+    all.extend((0..HEAD.len()).map(End::Head));
+    all.extend([End::Version(1, SCENE - 1), End::Version(1, SCENE), End::Version(3, SCENE), End::Cut]);
+    all
+}
+
+/// Makes a case that is none. The first two rounds try the edges.
+fn spoil(r: &mut Rng, end: End, round: usize, case: &mut Vec<u8>) {
+    match end {
+        End::Past(place, low, high) => {
+            case[place] = match round {
                 0 => low,
                 1 => high,
                 _ => r.within(low.into(), high.into()) as u8,
             };
         }
-        k if k < limits.len() + HEAD.len() => case[6 + k - limits.len()] ^= r.within(1, 255) as u8,
-        _ => case.truncate(r.within(1, CASE as i64 - 1) as usize),
+        End::Head(place) => case[6 + place] ^= r.within(1, 255) as u8,
+        End::Version(version, length) => {
+            case[6 + HEAD.len() - 1] = version;
+            case.truncate(6 + length);
+        }
+        End::Cut => case.truncate(r.within(1, CASE as i64 - 1) as usize),
     }
 }
 
-/// Replay inputs that end the run early: a few cases, one that is none, and one more that nobody answers.
-pub fn make_ends(seed: u64, count: u64, folder: &str) -> io::Result<()> {
+/// Replay inputs that end the run early: a few cases, one that is none, and one more that nobody answers. Answers how many
+/// ends there are.
+pub fn make_ends(seed: u64, count: u64, folder: &str, only: Option<u8>) -> io::Result<usize> {
     fs::create_dir_all(folder)?;
-    let mut maker = Maker::new(seed);
-    let limits = limits();
-    for number in 0..count {
+    let mut maker = Maker::new(seed, only);
+    let ends = all_ends();
+    for number in 0..count as usize {
         let mut bytes = Vec::new();
         lend(maker.memory(), &mut bytes)?;
         for _ in 0..maker.random.below(3) {
             bytes.extend(maker.next().encode());
         }
         let mut case = maker.next().encode().to_vec();
-        spoil(&mut maker.random, &limits, number as usize, &mut case);
-        let cut = case.len() < CASE;
+        let end = ends[number % ends.len()];
+        spoil(&mut maker.random, end, number / ends.len(), &mut case);
         bytes.extend(case);
-        if !cut {
+        // A cut is one only where the input ends; what is shorter by its version is no case either way.
+        if !matches!(end, End::Cut) {
             bytes.extend(maker.next().encode());
         }
         fs::write(Path::new(folder).join(format!("{number:05}.bin")), bytes)?;
     }
-    Ok(())
+    Ok(ends.len())
 }

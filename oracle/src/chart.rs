@@ -1,22 +1,23 @@
-//! The program `chart` of docs/SCOPE.md, with the original as the chip.
+//! The program `chart` of docs/SCOPE.md, on any chip.
 
+use crate::chip::Chip;
 use crate::late::Met;
+use crate::memory::Memory;
 use crate::play::{play, Event};
-use crate::vic::glue::Machine;
 use std::io::{self, Write};
 
 /// Charts a run file.
-pub fn chart(bytes: &[u8], output: &mut impl Write, alone: bool) -> io::Result<Met> {
-    play(bytes, alone, |event| match event {
+pub fn chart<C: Chip>(bytes: &[u8], output: &mut impl Write, make: impl FnOnce(Memory) -> C) -> io::Result<Met> {
+    play(bytes, make, |event| match event {
         Event::Steps(steps) => writeln!(output, "steps {steps}"),
-        Event::Tick(machine) => line(machine, output),
+        Event::Tick(chip) => line(chip, output),
         Event::Refused(refusal, done) => writeln!(output, "refused {refusal} {done}"),
     })
 }
 
 /// What a tick prints: BA and AEC are 0 for low.
-fn line(machine: &Machine, output: &mut impl Write) -> io::Result<()> {
-    let s = machine.state();
+fn line(chip: &impl Chip, output: &mut impl Write) -> io::Result<()> {
+    let s = chip.state();
     writeln!(
         output,
         "{} {} {} {} {} {} {} {}",
@@ -24,7 +25,7 @@ fn line(machine: &Machine, output: &mut impl Write) -> io::Result<()> {
         s.raster,
         u8::from(!s.ba_low),
         u8::from(!s.aec_low),
-        machine.sprites_with_dma(),
+        chip.sprites_with_dma(),
         s.rc,
         s.vc,
         s.irq_flags & 0x0F

@@ -1,8 +1,9 @@
 //! Compares two files of answers, field by field.
 
+use crate::kind::{known, MOS6567R8, MOS6569};
 use crate::late::{is_late, MOVED};
-use crate::replay::{fill, open, Case, ANSWER, CALLS, CASE, MEMORIES, TICK};
-use crate::scene::{fields, Field, Kind, State};
+use crate::replay::{called, fill, open, Case, ANSWER, CASE, MEMORIES, TICK};
+use crate::scene::{fields, Field, Sort, State};
 use std::io::{self, Read};
 
 /// How many differing cases are shown in full.
@@ -10,14 +11,15 @@ const SHOWN: u64 = 10;
 
 /// The answer's own two fields, the head, and the scene's, with places counted from the answer's start.
 fn table() -> Vec<Field> {
-    let own = |name: &str, offset, size| Field { name: name.into(), offset, size, kind: Kind::Number };
+    let own = |name: &str, offset, size| Field { name: name.into(), offset, size, sort: Sort::Number };
     let mut table = vec![own("refusal", 0, 1), own("answer", 1, 2), own("head", 3, 4)];
     table.extend(fields().into_iter().map(|field| Field { offset: field.offset + 3, ..field }));
     table
 }
 
-/// True where the files are the same and answer every case that is one. Ticks that find DEN late are counted. Where the original
-/// answered alone they are left out: there the fields of `MOVED` may differ, and no other.
+/// True where the files are the same and answer every case that is one. Who judges each is counted: the model, or the original, with
+/// its stand-in in ticks that find DEN late. Where the original answered alone these are left out: there the fields of `MOVED` may
+/// differ, and no other.
 pub fn compare(input: &str, ours: &str, theirs: &str, alone: bool) -> io::Result<bool> {
     let mut input = open(input)?;
     let mut ours = open(ours)?;
@@ -27,6 +29,8 @@ pub fn compare(input: &str, ours: &str, theirs: &str, alone: bool) -> io::Result
     let mut moved = vec![0u64; MOVED.len()];
     let (mut compared, mut differing) = (0u64, 0u64);
     let (mut late, mut late_differing) = (0u64, 0u64);
+    // Of the model's answers: those of the 6567R8, those of no kind, and how many of both differ.
+    let (mut ntsc, mut unknown, mut model_differing) = (0u64, 0u64, 0u64);
 
     let mut memories = vec![0; MEMORIES];
     fill(&mut input, &mut memories)?;
@@ -46,6 +50,10 @@ pub fn compare(input: &str, ours: &str, theirs: &str, alone: bool) -> io::Result
             }
             break ended_well;
         }
+        let kind = decoded.as_ref().map_or(MOS6569, Case::kind);
+        ntsc += u64::from(kind == MOS6567R8);
+        unknown += u64::from(known(kind).is_none());
+        model_differing += u64::from(kind != MOS6569 && a != b);
         let is_late = b[0] == 0 && decoded.is_some_and(|case| case.call == TICK && is_late(&case.state));
         late += u64::from(is_late);
         if a != b && is_late && alone {
@@ -89,6 +97,7 @@ pub fn compare(input: &str, ours: &str, theirs: &str, alone: bool) -> io::Result
     } else {
         println!("{compared} answers compared, {differing} differ");
         println!("{late} of them by the stand-in of a late DEN");
+        println!("{ntsc} of them by the model, of the 6567R8, and {unknown} of no kind; {model_differing} of these differ");
     }
     for (field, count) in table.iter().zip(&counts).filter(|(_, count)| **count > 0) {
         println!("  {count:>8}  {}{}", field.name, place(field));
@@ -113,7 +122,7 @@ fn place(field: &Field) -> String {
 fn value(field: &Field, bytes: &[u8]) -> i128 {
     let number = bytes.iter().rev().fold(0i128, |number, byte| number << 8 | i128::from(*byte));
     let size = 8 * field.size;
-    if field.kind == Kind::Signed && number >> (size - 1) & 1 == 1 {
+    if field.sort == Sort::Signed && number >> (size - 1) & 1 == 1 {
         number - (1 << size)
     } else {
         number
@@ -121,9 +130,9 @@ fn value(field: &Field, bytes: &[u8]) -> i128 {
 }
 
 fn describe(case: &[u8; CASE]) -> String {
-    let call = CALLS.get(usize::from(case[0])).copied().unwrap_or("no call");
+    let call = called(case[0]).unwrap_or("no call");
     let place = match State::decode(&case[6..]) {
-        Some(s) => format!("cycle {}, raster {}, mode {}, DMA mask {:#04x}", s.cycle, s.raster, s.mode, s.dma),
+        Some(s) => format!("kind {}, cycle {}, raster {}, mode {}, DMA mask {:#04x}", s.kind, s.cycle, s.raster, s.mode, s.dma),
         None => "not a scene".into(),
     };
     format!("{call}, bank {}, bytes {:?}, on a state with {place}", case[1], &case[2..6])

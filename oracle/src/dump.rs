@@ -1,21 +1,22 @@
-//! The program `dump` of docs/FORMATS.md, with the original as the chip. The original has no dump: its ticks are compared, the text is ours.
+//! The program `dump` of docs/FORMATS.md, on any chip. The original has no dump: its ticks are compared, the text is ours.
 
+use crate::chip::Chip;
 use crate::late::Met;
+use crate::memory::Memory;
 use crate::play::{play, Event};
-use crate::vic::glue::Machine;
 use std::io::{self, Write};
 
 /// Width and name of each signal, in the order of a record. The identifiers are A to H.
 const SIGNALS: [(u32, &str); 8] = [(7, "cycle"), (9, "raster"), (1, "ba"), (1, "aec"), (8, "dma"), (3, "rc"), (10, "vc"), (1, "irq")];
 
 /// Dumps a run file.
-pub fn dump(bytes: &[u8], output: &mut impl Write, alone: bool) -> io::Result<Met> {
+pub fn dump<C: Chip>(bytes: &[u8], output: &mut impl Write, make: impl FnOnce(Memory) -> C) -> io::Result<Met> {
     declare(output)?;
     let (mut time, mut last) = (0, None);
-    play(bytes, alone, |event| match event {
+    play(bytes, make, |event| match event {
         Event::Steps(_) => Ok(()),
-        Event::Tick(machine) => {
-            let now = record(machine);
+        Event::Tick(chip) => {
+            let now = record(chip);
             tick(time, last, now, output)?;
             time += 1;
             last = Some(now);
@@ -34,8 +35,8 @@ fn declare(output: &mut impl Write) -> io::Result<()> {
 }
 
 /// BA, AEC and the interrupt as on the pins: low is 0, and the chip asks with a low.
-fn record(machine: &Machine) -> [u16; 8] {
-    let s = machine.state();
+fn record(chip: &impl Chip) -> [u16; 8] {
+    let s = chip.state();
     [s.cycle, s.raster, (!s.ba_low).into(), (!s.aec_low).into(), s.dma.into(), s.rc.into(), s.vc, (!s.irq_line).into()]
 }
 

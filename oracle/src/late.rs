@@ -1,21 +1,21 @@
 //! DEN that comes late on line 0x30 (docs/DIFFERENCES.md, 2). The original takes DEN in the line's first cycle alone, the port in
 //! each of its cycles: here the original is no judge by itself, and a stand-in of ours sets its latch before the tick.
 
+use crate::kind::{MOS6569, PAL};
 use crate::scene::State;
 
 const LINE: u16 = 0x30;
-const LAST_CYCLE: u16 = 63;
 const DEN: u8 = 0x10;
 
 /// Whether the tick after these is on line 0x30, not its first, and finds DEN set and the latch clear. On every other tick the
 /// two rules are one: the latch is stored, or a set one stays.
 pub fn comes_late(cycle: u16, raster: u16, ctrl1: u8, latch: bool) -> bool {
-    raster == LINE && cycle != LAST_CYCLE && ctrl1 & DEN != 0 && !latch
+    raster == LINE && cycle != PAL.last_cycle && ctrl1 & DEN != 0 && !latch
 }
 
-/// The same of a scene.
+/// The same of a scene. Of another kind the original is no judge at all.
 pub fn is_late(s: &State) -> bool {
-    comes_late(s.cycle, s.raster, s.ctrl1, s.den_latch)
+    s.kind == MOS6569 && comes_late(s.cycle, s.raster, s.ctrl1, s.den_latch)
 }
 
 /// What a late DEN can move in one tick: the latch, the bad line and BA, who has the bus, the rows, and the matrix and graphics

@@ -1,15 +1,19 @@
-//! The original VIC-II as judge of the port. README.md says what each command does.
+//! The original VIC-II as judge of the port, and a model of ours for the kind of which there is none. README.md says what each command
+//! does.
 
 mod accept;
 mod ask;
 mod cases;
 mod chart;
 mod check;
+mod chip;
 mod clockchip;
 mod compare;
 mod dump;
+mod kind;
 mod late;
 mod memory;
+mod model;
 mod pace;
 mod pla;
 mod play;
@@ -22,26 +26,32 @@ mod states;
 mod vic;
 mod walk;
 
+use chip::Judges;
+use kind::{column, named, MOS6569};
 use memory::Memory;
+use model::Model;
 use std::io::{self, BufWriter, Read, Write};
 use std::process::ExitCode;
 use vic::glue::Machine;
 
-const USAGE: &str = "usage, with --alone before the command for the original without its stand-in of a late DEN:
+const USAGE: &str = "usage, with --alone before the command for the original without its stand-in of a late DEN, and on the 6569 alone,
+or with --kind 6569 or --kind 6567R8 for one kind of chip:
   oracle cases SEED COUNT OUTFILE        make replay input
   oracle ends SEED COUNT DIR             make replay inputs that end early
-  oracle answer INFILE OUTFILE           answer replay input with the original
+  oracle answer INFILE OUTFILE           answer replay input
   oracle compare-replay IN OURS THEIRS   compare two files of answers
   oracle show INFILE NUMBER              print one case of a replay input
-  oracle fields                          list a scene's fields: place, size, kind, name
+  oracle fields                          list a scene's fields: place, size, sort, name
   oracle runs SEED COUNT DIR             make run files
   oracle late-runs SEED COUNT DIR        make run files with DEN late on line 0x30
-  oracle chart < FILE > OUT              chart a run file with the original
-  oracle dump < FILE > OUT               dump a run file's ticks with the original
+  oracle sample-run SEED OUTFILE         make a run file of one frame and a little more
+  oracle chart < FILE > OUT              chart a run file
+  oracle dump < FILE > OUT               dump a run file's ticks
   oracle questions SEED COUNT DIR        make questions for ask, a file for each part
   oracle sample-questions SEED OUTFILE   make the few questions that the test asks
-  oracle ask INFILE OUTFILE              answer questions with the original
+  oracle ask INFILE OUTFILE              answer questions
   oracle check SEED COUNT                check the original on accepted states
+  oracle check-model SEED COUNT          check the model by the original
   oracle power-up > SCENE                write the scene of a chip at power-up
   oracle pace < FILE > SCENE             work a scene through steps, for bench/run
   oracle selftest                        check the oracle's own parts";
@@ -65,44 +75,66 @@ fn main() -> ExitCode {
 
 /// The command's verdict; nothing where there is no such command.
 fn run(arguments: &[&str]) -> io::Result<Option<bool>> {
-    let (alone, arguments) = match arguments {
-        ["--alone", rest @ ..] => (true, rest),
-        all => (false, all),
+    let (alone, only, arguments) = match arguments {
+        // The original is a 6569.
+        ["--alone", rest @ ..] => (true, Some(MOS6569), rest),
+        ["--kind", name, rest @ ..] => match named(name) {
+            Some(kind) => (false, Some(kind), rest),
+            None => return Ok(None),
+        },
+        all => (false, None, all),
     };
+    // A run file has no place for the kind.
+    let kind = only.unwrap_or(MOS6569);
     let verdict = match *arguments {
-        ["cases", seed, count, output] => cases::make(number(seed)?, number(count)?, output).map(|()| true),
-        ["ends", seed, count, folder] => cases::make_ends(number(seed)?, number(count)?, folder).map(|()| true),
+        ["cases", seed, count, output] => cases::make(number(seed)?, number(count)?, output, only).map(|()| true),
+        ["ends", seed, count, folder] => cases::make_ends(number(seed)?, number(count)?, folder, only).map(|ends| {
+            println!("{ends} kinds of end");
+            true
+        }),
         ["answer", input, output] => replay::answer(input, output, alone).map(|()| true),
         ["compare-replay", input, ours, theirs] => compare::compare(input, ours, theirs, alone),
         ["show", input, place] => compare::show(input, number(place)?),
         ["fields"] => {
             let mut output = BufWriter::new(io::stdout().lock());
             for field in scene::fields() {
-                writeln!(output, "{:3} {} {} {}", field.offset, field.size, field.kind.word(), field.name)?;
+                writeln!(output, "{:3} {} {} {}", field.offset, field.size, field.sort.word(), field.name)?;
             }
             output.flush().map(|()| true)
         }
-        ["runs", seed, count, folder] => runs::make(number(seed)?, number(count)?, folder).map(|()| true),
-        ["late-runs", seed, count, folder] => runs::make_late(number(seed)?, number(count)?, folder).map(|()| true),
+        ["runs", seed, count, folder] => runs::make(number(seed)?, number(count)?, folder, column(kind), runs::plain).map(|()| true),
+        ["late-runs", seed, count, folder] => runs::make(number(seed)?, number(count)?, folder, column(kind), runs::late).map(|()| true),
+        ["sample-run", seed, output] => runs::make_sample(number(seed)?, output, column(kind)).map(|()| true),
         ["chart"] => {
             let mut output = BufWriter::new(io::stdout().lock());
-            chart::chart(&given()?, &mut output, alone)?.tell();
+            match kind {
+                MOS6569 => chart::chart(&given()?, &mut output, |memory| Machine::judging(memory, alone))?.tell(),
+                _ => chart::chart(&given()?, &mut output, |memory| Model::new(memory, kind))?.tell(),
+            }
             output.flush().map(|()| true)
         }
         ["dump"] => {
             let mut output = BufWriter::new(io::stdout().lock());
-            dump::dump(&given()?, &mut output, alone)?.tell();
+            match kind {
+                MOS6569 => dump::dump(&given()?, &mut output, |memory| Machine::judging(memory, alone))?.tell(),
+                _ => dump::dump(&given()?, &mut output, |memory| Model::new(memory, kind))?.tell(),
+            }
             output.flush().map(|()| true)
         }
-        ["power-up"] => io::stdout().write_all(&Machine::new(Memory::new()).state().encode()).map(|()| true),
+        ["power-up"] => {
+            let mut judges = Judges::new(Memory::new(), alone);
+            judges.of(kind).power_up(kind);
+            io::stdout().write_all(&judges.of(kind).state().encode()).map(|()| true)
+        }
         ["pace"] => pace::pace(&given()?, &mut io::stdout().lock(), alone).map(|met| {
             met.tell();
             true
         }),
-        ["questions", seed, count, folder] => ask::make(number(seed)?, number(count)?, folder).map(|()| true),
+        ["questions", seed, count, folder] => ask::make(number(seed)?, number(count)?, folder, only).map(|()| true),
         ["sample-questions", seed, output] => ask::make_sample(number(seed)?, output).map(|()| true),
         ["ask", input, output] => ask::answer(input, output).map(|()| true),
         ["check", seed, count] => Ok(check::check(number(seed)?, number(count)?)),
+        ["check-model", seed, count] => Ok(check::check_model(number(seed)?, number(count)?)),
         ["selftest"] => Ok(selftest::selftest()),
         _ => return Ok(None),
     };

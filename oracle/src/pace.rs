@@ -1,13 +1,14 @@
 //! A scene worked through steps again and again, as the port's program `pace` does it, for a clock that stands outside.
 //!
 //! In: the three memories, a scene, the bank, a byte for the port alone, the turns (4 bytes), and steps of an address, a
-//! value and a count of ticks (2 bytes). Out: the scene afterwards.
+//! value and a count of ticks (2 bytes). Out: the scene afterwards. The scene's kind says which chip it is.
 
+use crate::chip::Judges;
+use crate::kind::MOS6569;
 use crate::late::Met;
 use crate::memory::Memory;
 use crate::replay::{fill, MEMORIES};
 use crate::scene::{State, SCENE};
-use crate::vic::glue::Machine;
 use std::io::{self, Write};
 
 const HEAD: usize = 6;
@@ -26,17 +27,21 @@ pub fn pace(input: &[u8], output: &mut impl Write, alone: bool) -> io::Result<Me
     for part in [&mut memory.ram[..], &mut memory.rom[..], &mut memory.colour[..]] {
         fill(&mut from, part)?;
     }
-    memory.bank = head[0];
-    let mut machine = Machine::judging(memory, alone);
-    machine.load(&state);
+    if alone && state.kind != MOS6569 {
+        return Err(bad("the original is a 6569"));
+    }
+    let mut judges = Judges::new(memory, alone);
+    let chip = judges.of(state.kind);
+    chip.load(&state);
+    chip.see(head[0]);
     let turns = u32::from_le_bytes(head[2..6].try_into().expect("four bytes"));
     let mut met = Met::default();
     for _ in 0..turns {
         for step in steps.chunks_exact(4) {
-            machine.write(step[0], step[1]);
-            machine.run(u16::from_le_bytes([step[2], step[3]]), &mut met);
+            chip.write(step[0].into(), step[1]);
+            chip.run(u16::from_le_bytes([step[2], step[3]]), &mut met);
         }
     }
-    output.write_all(&machine.state().encode())?;
+    output.write_all(&chip.state().encode())?;
     Ok(met)
 }

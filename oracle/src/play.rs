@@ -1,10 +1,10 @@
-//! A run file at work, with the original as the chip: what `chart` and `dump` are told.
+//! A run file at work, on any chip: what `chart` and `dump` are told.
 //!
 //! docs/DECISIONS.md, 33, settles the readings of the run file.
 
+use crate::chip::{Chip, Refusal};
 use crate::late::Met;
 use crate::memory::Memory;
-use crate::vic::glue::{Machine, Refusal};
 use std::io;
 
 const ENDS_EARLY: Refusal = 7;
@@ -12,29 +12,30 @@ const NOT_ALLOWED: Refusal = 8;
 const BYTES_LEFT: Refusal = 9;
 
 /// What there is to tell of a run, in its order: the number of the steps, each tick, a refusal and the steps done before it.
-pub enum Event<'a> {
+pub enum Event<'a, C> {
     Steps(u16),
-    Tick(&'a Machine),
+    Tick(&'a C),
     Refused(Refusal, u16),
 }
 
-/// Plays a run file and tells of it, with the stand-in of a late DEN or without.
-pub fn play(bytes: &[u8], alone: bool, mut tell: impl FnMut(Event) -> io::Result<()>) -> io::Result<Met> {
+/// Plays a run file on the chip that is made, at power-up, with the file's memory, and tells of it.
+pub fn play<C: Chip>(bytes: &[u8], make: impl FnOnce(Memory) -> C, mut tell: impl FnMut(Event<C>) -> io::Result<()>) -> io::Result<Met> {
     let mut met = Met::default();
     let mut file = Cursor { bytes, at: 0 };
-    let (mut machine, steps) = match open(&mut file, alone) {
+    let (memory, steps) = match open(&mut file) {
         Ok(opened) => opened,
         Err(refusal) => {
             tell(Event::Refused(refusal, 0))?;
             return Ok(met);
         }
     };
+    let mut chip = make(memory);
     tell(Event::Steps(steps))?;
     for done in 0..steps {
-        match step(&mut file, &mut machine) {
+        match step(&mut file, &mut chip) {
             Ok(true) => {
-                met.tick(machine.late);
-                tell(Event::Tick(&machine))?;
+                met.tick(chip.late());
+                tell(Event::Tick(&chip))?;
             }
             Ok(false) => {}
             Err(refusal) => {
@@ -79,34 +80,34 @@ impl Cursor<'_> {
 }
 
 /// All that comes before the steps.
-fn open(file: &mut Cursor, alone: bool) -> Result<(Machine, u16), Refusal> {
+fn open(file: &mut Cursor) -> Result<(Memory, u16), Refusal> {
     let mut memory = Memory::new();
     file.changes(&mut memory.ram[..])?;
     file.changes(&mut memory.rom[..])?;
     file.changes(&mut memory.colour[..])?;
     let steps = u16::from_le_bytes(file.take()?);
-    Ok((Machine::judging(memory, alone), steps))
+    Ok((memory, steps))
 }
 
 /// One step; true for a tick.
-fn step(file: &mut Cursor, machine: &mut Machine) -> Result<bool, Refusal> {
+fn step(file: &mut Cursor, chip: &mut impl Chip) -> Result<bool, Refusal> {
     let record: [u8; 5] = file.take()?;
     // Each pattern says which bytes are unused and so must be 0.
     match record {
         [0, 0, 0, 0, 0] => {
-            machine.tick()?;
+            chip.tick()?;
             return Ok(true);
         }
-        [1, address, value, 0, 0] => machine.write(address, value),
-        [2, value, 0, 0, 0] => machine.write_y_expand(value),
+        [1, address, value, 0, 0] => chip.write(address.into(), value),
+        [2, value, 0, 0, 0] => chip.write_y_expand(value),
         // Here a compare line above 511 is a field not allowed.
-        [3, ctrl1, ctrl2, low, high @ 0..=1] => machine.place_controls(ctrl1, ctrl2, u16::from_le_bytes([low, high]))?,
-        [4, value, 0, 0, 0] => machine.late_byte(value)?,
-        [5, 0, 0, 0, 0] => machine.border_compares(),
+        [3, ctrl1, ctrl2, low, high @ 0..=1] => chip.place_controls(ctrl1, ctrl2, u16::from_le_bytes([low, high]))?,
+        [4, value, 0, 0, 0] => chip.late_byte(value)?,
+        [5, 0, 0, 0, 0] => chip.border_compares(),
         [6, state @ 0..=1, transition @ 0..=1, access @ 0..=1, mode @ 0..=1] => {
-            machine.place_display(state == 1, transition == 1, access == 1, mode == 1)?;
+            chip.place_display_now([state, transition, access, mode].map(|field| field == 1))?;
         }
-        [7, bank @ 0..=3, 0, 0, 0] => machine.memory.bank = bank,
+        [7, bank @ 0..=3, 0, 0, 0] => chip.see(bank),
         _ => return Err(NOT_ALLOWED),
     }
     Ok(false)

@@ -1,8 +1,9 @@
 //! Replay: cases in, answers out (docs/FORMATS.md, "Replay").
 
+use crate::chip::{Chip, Judges, Refusal};
+use crate::kind::MOS6569;
 use crate::memory::{Memory, COLOUR, RAM, ROM};
 use crate::scene::{State, SCENE};
-use crate::vic::glue::{Machine, Refusal};
 use std::fs::File;
 use std::io::{self, BufReader, BufWriter, Read, Write};
 
@@ -20,9 +21,14 @@ pub const PLACE_DISPLAY: u8 = 6;
 pub const READ: u8 = 7;
 pub const BA_HIGH_AT_PHI1: u8 = 8;
 pub const SPRITES_WITH_DMA: u8 = 9;
+pub const POWER_UP: u8 = 12;
 
-/// The calls by number, for messages.
-pub const CALLS: [&str; 10] = [
+/// Every call but the tick.
+pub const OTHERS: [u8; 10] =
+    [WRITE, WRITE_Y_EXPAND, PLACE_CONTROLS, LATE_BYTE, BORDER_COMPARES, PLACE_DISPLAY, READ, BA_HIGH_AT_PHI1, SPRITES_WITH_DMA, POWER_UP];
+
+/// The calls by number, for messages. There is no call yet where the name is empty.
+const CALLS: [&str; 13] = [
     "tick",
     "register write",
     "Y-expand write",
@@ -33,7 +39,15 @@ pub const CALLS: [&str; 10] = [
     "register read",
     "ba_high_at_phi1",
     "sprites with DMA",
+    "",
+    "",
+    "power-up",
 ];
+
+/// Nothing where there is no such call.
+pub fn called(call: u8) -> Option<&'static str> {
+    CALLS.get(usize::from(call)).copied().filter(|name| !name.is_empty())
+}
 
 #[derive(Clone, Debug)]
 pub struct Case {
@@ -55,57 +69,68 @@ impl Case {
 
     /// Nothing where the case ends the run: an unknown call, or no scene.
     pub fn decode(bytes: &[u8; CASE]) -> Option<Self> {
-        if usize::from(bytes[0]) >= CALLS.len() {
-            return None;
-        }
+        called(bytes[0])?;
         let arguments = bytes[2..6].try_into().expect("four bytes");
         Some(Self { call: bytes[0], bank: bytes[1], arguments, state: State::decode(&bytes[6..])? })
     }
+
+    /// The kind that says who judges: the scene's, and at power-up the one that is asked for.
+    pub fn kind(&self) -> u8 {
+        match self.call {
+            POWER_UP => self.arguments[0],
+            _ => self.state.kind,
+        }
+    }
 }
 
-/// One call on a given state. The machine is left in the state afterwards.
-pub fn perform(machine: &mut Machine, case: &Case) -> Result<u16, Refusal> {
-    machine.load(&case.state);
-    machine.memory.bank = case.bank;
+/// One call on a given state. The chip is left in the state afterwards.
+pub fn perform(chip: &mut dyn Chip, case: &Case) -> Result<u16, Refusal> {
     let [a, b, c, d] = case.arguments;
+    // The one call that does not look at the scene.
+    if case.call == POWER_UP {
+        chip.power_up(a);
+        return Ok(0);
+    }
+    chip.load(&case.state);
+    chip.see(case.bank);
     match case.call {
-        TICK => machine.tick().map(|()| 0),
+        TICK => chip.tick().map(|()| 0),
         WRITE => {
-            machine.write(a, b);
+            chip.write(a.into(), b);
             Ok(0)
         }
         WRITE_Y_EXPAND => {
-            machine.write_y_expand(a);
+            chip.write_y_expand(a);
             Ok(0)
         }
-        PLACE_CONTROLS => machine.place_controls(a, b, u16::from_le_bytes([c, d])).map(|()| 0),
-        LATE_BYTE => machine.late_byte(a).map(|()| 0),
+        PLACE_CONTROLS => chip.place_controls(a, b, u16::from_le_bytes([c, d])).map(|()| 0),
+        LATE_BYTE => chip.late_byte(a).map(|()| 0),
         BORDER_COMPARES => {
-            machine.border_compares();
+            chip.border_compares();
             Ok(0)
         }
-        PLACE_DISPLAY => machine.place_display(a % 2 == 1, b % 2 == 1, c % 2 == 1, d % 2 == 1).map(|()| 0),
-        READ => Ok(machine.read(a, b, c).into()),
-        BA_HIGH_AT_PHI1 => Ok(machine.ba_high_at_phi1().into()),
-        SPRITES_WITH_DMA => Ok(machine.sprites_with_dma().into()),
+        PLACE_DISPLAY => chip.place_display_now(case.arguments.map(|byte| byte % 2 == 1)).map(|()| 0),
+        READ => Ok(chip.read(a.into(), b, c).into()),
+        BA_HIGH_AT_PHI1 => Ok(chip.ba_high_at_phi1().into()),
+        SPRITES_WITH_DMA => Ok(chip.sprites_with_dma().into()),
         call => unreachable!("call {call} is no case"),
     }
 }
 
-/// The 311 bytes that a case is answered with.
-pub fn answer_case(machine: &mut Machine, case: &Case) -> [u8; ANSWER] {
-    let (refusal, value) = match perform(machine, case) {
+/// The 312 bytes that a case is answered with.
+pub fn answer_case(chip: &mut dyn Chip, case: &Case) -> [u8; ANSWER] {
+    let (refusal, value) = match perform(chip, case) {
         Ok(value) => (0, value),
         Err(refusal) => (refusal, 0),
     };
     let mut bytes = [0; ANSWER];
     bytes[0] = refusal;
     bytes[1..3].copy_from_slice(&value.to_le_bytes());
-    bytes[3..].copy_from_slice(&machine.state().encode());
+    bytes[3..].copy_from_slice(&chip.state().encode());
     bytes
 }
 
-/// Answers a file of cases, as far as they go, with the stand-in of a late DEN or without.
+/// Answers a file of cases, as far as they go, each by the judge of its kind. The original alone has no answer to another kind.
 pub fn answer(input: &str, output: &str, alone: bool) -> io::Result<()> {
     let mut input = open(input)?;
     let mut output = create(output)?;
@@ -116,7 +141,7 @@ pub fn answer(input: &str, output: &str, alone: bool) -> io::Result<()> {
             return output.flush();
         }
     }
-    let mut machine = Machine::judging(memory, alone);
+    let mut judges = Judges::new(memory, alone);
     let mut count = 0u64;
     loop {
         let mut bytes = [0; CASE];
@@ -129,7 +154,10 @@ pub fn answer(input: &str, output: &str, alone: bool) -> io::Result<()> {
             eprintln!("case {count} is cut off, not a scene or another call: the answers end before it");
             break;
         };
-        output.write_all(&answer_case(&mut machine, &case))?;
+        if alone && case.kind() != MOS6569 {
+            return Err(io::Error::other(format!("case {count} is of kind {}, of which the original is no judge", case.kind())));
+        }
+        output.write_all(&answer_case(judges.of(case.kind()), &case))?;
         count += 1;
     }
     output.flush()?;

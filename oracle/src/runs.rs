@@ -1,13 +1,14 @@
-//! Makes run files (docs/SCOPE.md, "Run file").
+//! Makes run files (docs/SCOPE.md, "Run file"). A file has no place for the kind; its writes go by the beam of the kind it is made for.
 
+use crate::kind::Column;
 use crate::memory::{COLOUR, RAM, ROM};
 use crate::rng::Rng;
 use std::path::Path;
 use std::{fs, io};
 
 /// A run file in its parts.
-#[derive(Default)]
 struct Run {
+    column: Column,
     ram: Vec<(u16, u8)>,
     rom: Vec<(u16, u8)>,
     colour: Vec<(u16, u8)>,
@@ -15,6 +16,10 @@ struct Run {
 }
 
 impl Run {
+    fn new(column: Column) -> Self {
+        Self { column, ram: Vec::new(), rom: Vec::new(), colour: Vec::new(), steps: Vec::new() }
+    }
+
     fn encode(&self) -> Vec<u8> {
         let mut bytes = Vec::new();
         for section in [&self.ram, &self.rom, &self.colour] {
@@ -68,44 +73,64 @@ impl Run {
         self.steps.push([7, bank, 0, 0, 0]);
     }
 
+    /// The cycles of a line, and the lines of a frame.
+    fn line(&self) -> usize {
+        self.column.last_cycle.into()
+    }
+
+    fn lines(&self) -> usize {
+        usize::from(self.column.last_line) + 1
+    }
+
     /// Where the beam is after these many ticks from power-up: cycle and line.
-    fn beam(ticks: usize) -> (usize, usize) {
+    fn beam(&self, ticks: usize) -> (usize, usize) {
         match ticks {
-            0 => (63, 311),
+            0 => (self.line(), self.lines() - 1),
             // Line 0 begins in cycle 2; the writers below don't look at cycle 1 of it.
-            _ => ((ticks - 1) % 63 + 1, (ticks - 1) / 63 % 312),
+            _ => ((ticks - 1) % self.line() + 1, (ticks - 1) / self.line() % self.lines()),
         }
     }
 }
 
-pub fn make(seed: u64, count: u64, folder: &str) -> io::Result<()> {
-    made(seed, count, folder, one)
+/// Run files of a folder by their numbers.
+pub type Files = fn(u64, u64, Column) -> Vec<u8>;
+
+/// Each file has its own generator, so that it doesn't change with the number of files.
+fn generator(seed: u64, number: u64) -> Rng {
+    Rng::new(seed.wrapping_mul(0x1_0000_0001).wrapping_add(number))
+}
+
+/// In turn: a game, random runs, damaged ones, tiny ones.
+pub fn plain(seed: u64, number: u64, column: Column) -> Vec<u8> {
+    let r = &mut generator(seed, number);
+    match number % 16 {
+        0 => {
+            let frames = r.within(1, 2) as usize;
+            game(r, column, frames * column.frame() as usize).encode()
+        }
+        1..=6 => random(r, column).encode(),
+        7..=12 => damaged(r, column, number / 16 * 6 + number % 16 - 7),
+        _ => tiny(r, column),
+    }
 }
 
 /// Run files in which DEN changes around line 0x30.
-pub fn make_late(seed: u64, count: u64, folder: &str) -> io::Result<()> {
-    made(seed, count, folder, |r, _| late(r).encode())
+pub fn late(seed: u64, number: u64, column: Column) -> Vec<u8> {
+    late_den(&mut generator(seed, number), column).encode()
 }
 
-fn made(seed: u64, count: u64, folder: &str, one: impl Fn(&mut Rng, u64) -> Vec<u8>) -> io::Result<()> {
+pub fn make(seed: u64, count: u64, folder: &str, column: Column, files: Files) -> io::Result<()> {
     fs::create_dir_all(folder)?;
     for number in 0..count {
-        // Each file has its own generator, so that it doesn't change with the number of files.
-        let mut r = Rng::new(seed.wrapping_mul(0x1_0000_0001).wrapping_add(number));
-        let bytes = one(&mut r, number);
-        fs::write(Path::new(folder).join(format!("{number:05}.run")), bytes)?;
+        fs::write(Path::new(folder).join(format!("{number:05}.run")), files(seed, number, column))?;
     }
     Ok(())
 }
 
-/// In turn: a game, random runs, damaged ones, tiny ones.
-fn one(r: &mut Rng, number: u64) -> Vec<u8> {
-    match number % 16 {
-        0 => game(r).encode(),
-        1..=6 => random(r).encode(),
-        7..=12 => damaged(r, number / 16 * 6 + number % 16 - 7),
-        _ => tiny(r),
-    }
+/// One game's frame, and a few lines of the next.
+pub fn make_sample(seed: u64, output: &str, column: Column) -> io::Result<()> {
+    let ticks = column.frame() + 2 * u64::from(column.last_cycle);
+    fs::write(output, game(&mut Rng::new(seed), column, ticks as usize).encode())
 }
 
 fn changes(r: &mut Rng, size: usize, most: u64) -> Vec<(u16, u8)> {
@@ -114,8 +139,8 @@ fn changes(r: &mut Rng, size: usize, most: u64) -> Vec<(u16, u8)> {
 }
 
 /// Calls at random between stretches of ticks.
-fn random(r: &mut Rng) -> Run {
-    let mut run = Run { ram: changes(r, RAM, 600), rom: changes(r, ROM, 300), colour: changes(r, COLOUR, 200), ..Run::default() };
+fn random(r: &mut Rng, column: Column) -> Run {
+    let mut run = Run { ram: changes(r, RAM, 600), rom: changes(r, ROM, 300), colour: changes(r, COLOUR, 200), ..Run::new(column) };
     let length = r.pick(&[50, 500, 4000, 9000, 22000]);
     let quiet = r.pick(&[2, 10, 63, 300]);
     let mut ticks = 0;
@@ -135,7 +160,7 @@ fn random(r: &mut Rng) -> Run {
 }
 
 fn random_call(r: &mut Rng, run: &mut Run, ticks: usize) {
-    let (_, line) = Run::beam(ticks);
+    let (_, line) = run.beam(ticks);
     match r.below(12) {
         0..=2 => {
             let mut ctrl1 = r.byte();
@@ -145,7 +170,7 @@ fn random_call(r: &mut Rng, run: &mut Run, ticks: usize) {
             if r.flag() {
                 ctrl1 = (ctrl1 & 0xF8) | (line as u8 & 7);
             }
-            let compare = if r.flag() { r.below(512) as u16 } else { (line as u16 + r.below(3) as u16) % 312 };
+            let compare = if r.flag() { r.below(512) as u16 } else { (line as u16 + r.below(3) as u16) % run.lines() as u16 };
             run.controls(ctrl1, r.byte(), compare);
         }
         3 => run.write(r.byte(), r.byte()),
@@ -159,9 +184,9 @@ fn random_call(r: &mut Rng, run: &mut Run, ticks: usize) {
     }
 }
 
-/// A frame or two as a game has them: a screen, sprites used twice, splits, a crunch, an open border.
-fn game(r: &mut Rng) -> Run {
-    let mut run = Run::default();
+/// Ticks as a game has them: a screen, sprites used twice a frame, splits, a crunch, an open border.
+fn game(r: &mut Rng, column: Column, ticks: usize) -> Run {
+    let mut run = Run::new(column);
     // Screen at 0x0400 with its sprite pointers, two pages of shapes, a character set, colours.
     run.ram.extend((0..1000).map(|k| (0x0400 + k, r.byte())));
     run.ram.extend((0..8).map(|k| (0x07F8 + k, r.within(0x20, 0x27) as u8)));
@@ -193,10 +218,9 @@ fn game(r: &mut Rng) -> Run {
         run.write(0x27 + k as u8, r.byte());
     }
 
-    let frames = r.within(1, 2) as usize;
-    for ticks in 1..=frames * 312 * 63 {
+    for ticks in 1..=ticks {
         run.tick();
-        let (cycle, line) = Run::beam(ticks);
+        let (cycle, line) = run.beam(ticks);
         // The board's byte in the cycles in which the CPU may still have the bus.
         if (15..=18).contains(&cycle) && (0x30..=0xF7).contains(&line) {
             run.late_byte(r.byte());
@@ -245,8 +269,9 @@ fn game(r: &mut Rng) -> Run {
 }
 
 /// A frame, at times a second, whose DEN is mostly clear above line 0x30 and is set and cleared anywhere on it and beside it.
-fn late(r: &mut Rng) -> Run {
-    let mut run = Run { ram: changes(r, RAM, 60), colour: changes(r, COLOUR, 40), ..Run::default() };
+fn late_den(r: &mut Rng, column: Column) -> Run {
+    let mut run = Run { ram: changes(r, RAM, 60), colour: changes(r, COLOUR, 40), ..Run::new(column) };
+    let (long, frame) = (run.line(), column.frame() as usize);
     let frames = if r.chance(1, 8) { 2 } else { 1 };
     let ctrl2 = r.byte();
     // Mostly a bad line on 0x30 itself, else one of the seven after it.
@@ -257,20 +282,20 @@ fn late(r: &mut Rng) -> Run {
     for k in 0..8 {
         run.write(2 * k + 1, r.within(0x28, 0x38) as u8);
     }
-    let last = (frames - 1) * 312 * 63 + 63 * r.within(0x32, 0x48) as usize;
+    let last = (frames - 1) * frame + long * r.within(0x32, 0x48) as usize;
     // From a few ticks before the line on, and at times after it.
-    let mut next = 63 * 0x30 - 10 + r.below(76) as usize;
+    let mut next = long * 0x30 - 10 + r.below(76) as usize;
     for ticks in 1..=last {
         run.tick();
-        let (_, line) = Run::beam(ticks);
+        let (_, line) = run.beam(ticks);
         if ticks == next {
             let den = if r.chance(2, 3) { 0x10 } else { 0 };
             let scroll = if r.chance(3, 4) { row } else { r.below(8) as u8 };
             run.controls(den | 0x08 | scroll, ctrl2, 0x30);
             next += r.pick(&[1, 2, 5, 11, 30, 64]) as usize;
             // From line 0x32 on the next frame's line.
-            if next > 63 * 0x32 && next < 312 * 63 {
-                next = 63 * (312 + 0x30) - 10 + r.below(76) as usize;
+            if next > long * 0x32 && next < frame {
+                next = frame + long * 0x30 - 10 + r.below(76) as usize;
             }
         } else if (0x30..0x33).contains(&line) && r.chance(1, 60) {
             random_call(r, &mut run, ticks);
@@ -323,8 +348,8 @@ fn faults() -> Vec<Fault> {
 }
 
 /// A short run with one fault, each in turn.
-fn damaged(r: &mut Rng, turn: u64) -> Vec<u8> {
-    let mut run = Run { ram: changes(r, RAM, 4), rom: changes(r, ROM, 4), colour: changes(r, COLOUR, 4), ..Run::default() };
+fn damaged(r: &mut Rng, column: Column, turn: u64) -> Vec<u8> {
+    let mut run = Run { ram: changes(r, RAM, 4), rom: changes(r, ROM, 4), colour: changes(r, COLOUR, 4), ..Run::new(column) };
     for _ in 0..r.within(1, 40) {
         if r.flag() {
             run.tick();
@@ -399,19 +424,19 @@ fn damaged(r: &mut Rng, turn: u64) -> Vec<u8> {
 }
 
 /// No bytes, a few bytes, no steps, a few steps of one kind.
-fn tiny(r: &mut Rng) -> Vec<u8> {
+fn tiny(r: &mut Rng, column: Column) -> Vec<u8> {
     match r.below(4) {
         0 => vec![0; r.below(12) as usize],
         1 => (0..r.below(24)).map(|_| r.pick(&[0, 0, 0, 1, 2, 255])).collect(),
         2 => {
-            let mut run = Run::default();
+            let mut run = Run::new(column);
             for _ in 0..r.below(130) {
                 run.tick();
             }
             run.encode()
         }
         _ => {
-            let mut run = Run::default();
+            let mut run = Run::new(column);
             for _ in 0..r.below(6) {
                 random_call(r, &mut run, 0);
                 run.tick();

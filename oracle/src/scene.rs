@@ -1,7 +1,7 @@
-//! A chip state in plain numbers, and its 308 bytes (docs/FORMATS.md, "Scene").
+//! A chip state in plain numbers, and its 309 bytes (docs/FORMATS.md, "Scene"). Version 2 alone is read here, as by `replay`.
 
-pub const SCENE: usize = 308;
-pub const HEAD: [u8; 4] = [b'N', b'P', b'S', 1];
+pub const SCENE: usize = 309;
+pub const HEAD: [u8; 4] = [b'N', b'P', b'S', 2];
 const NOTHING_PENDING: u8 = 255;
 
 #[derive(Clone, Copy, Debug, Default, PartialEq, Eq)]
@@ -104,6 +104,7 @@ pub struct State {
     pub forced_clock: i64,
     pub clock: i64,
     pub pending: Option<u8>,
+    pub kind: u8,
 }
 
 /// A field's name in two parts, so that no text is built while states are read and written.
@@ -223,6 +224,7 @@ impl State {
         v.clock(plain("forced clock"), &mut self.forced_clock);
         v.clock(plain("clock"), &mut self.clock);
         v.place(plain("pending place"), &mut self.pending);
+        v.byte(plain("kind"), &mut self.kind);
     }
 
     pub fn encode(&self) -> [u8; SCENE] {
@@ -250,12 +252,12 @@ pub struct Field {
     pub name: String,
     pub offset: usize,
     pub size: usize,
-    pub kind: Kind,
+    pub sort: Sort,
 }
 
 /// What the bytes of a field may be.
 #[derive(Clone, Copy, PartialEq, Eq)]
-pub enum Kind {
+pub enum Sort {
     Number,
     Signed,
     Flag,
@@ -263,14 +265,14 @@ pub enum Kind {
     Place,
 }
 
-impl Kind {
+impl Sort {
     pub fn word(self) -> &'static str {
         match self {
-            Kind::Number => "number",
-            Kind::Signed => "signed",
-            Kind::Flag => "flag",
-            Kind::Mode => "mode",
-            Kind::Place => "place",
+            Sort::Number => "number",
+            Sort::Signed => "signed",
+            Sort::Flag => "flag",
+            Sort::Mode => "mode",
+            Sort::Place => "place",
         }
     }
 }
@@ -375,36 +377,36 @@ struct Names {
 }
 
 impl Names {
-    fn add(&mut self, (before, index, after): Name, size: usize, kind: Kind) {
+    fn add(&mut self, (before, index, after): Name, size: usize, sort: Sort) {
         let index = index.map_or(String::new(), |k| k.to_string());
-        self.fields.push(Field { name: format!("{before}{index}{after}"), offset: self.at, size, kind });
+        self.fields.push(Field { name: format!("{before}{index}{after}"), offset: self.at, size, sort });
         self.at += size;
     }
 }
 
 impl Visit for Names {
     fn byte(&mut self, name: Name, _: &mut u8) {
-        self.add(name, 1, Kind::Number);
+        self.add(name, 1, Sort::Number);
     }
     fn word(&mut self, name: Name, _: &mut u16) {
-        self.add(name, 2, Kind::Number);
+        self.add(name, 2, Sort::Number);
     }
     fn long(&mut self, name: Name, _: &mut u32) {
-        self.add(name, 4, Kind::Number);
+        self.add(name, 4, Sort::Number);
     }
     fn clock(&mut self, name: Name, _: &mut i64) {
-        self.add(name, 8, Kind::Signed);
+        self.add(name, 8, Sort::Signed);
     }
     fn counter(&mut self, name: Name, _: &mut i8) {
-        self.add(name, 1, Kind::Signed);
+        self.add(name, 1, Sort::Signed);
     }
     fn flag(&mut self, name: Name, _: &mut bool) {
-        self.add(name, 1, Kind::Flag);
+        self.add(name, 1, Sort::Flag);
     }
     fn mode(&mut self, name: Name, _: &mut u8) {
-        self.add(name, 1, Kind::Mode);
+        self.add(name, 1, Sort::Mode);
     }
     fn place(&mut self, name: Name, _: &mut Option<u8>) {
-        self.add(name, 1, Kind::Place);
+        self.add(name, 1, Sort::Place);
     }
 }

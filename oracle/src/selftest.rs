@@ -3,12 +3,15 @@
 use crate::accept::{accepted, CLOCK_LIMIT};
 use crate::ask::{mask_at, panics};
 use crate::chart::chart;
+use crate::chip::{Chip, Refusal};
 use crate::dump::dump;
+use crate::kind::{column, Slot, MOS6567R8, MOS6569, NTSC, PAL, UNKNOWN};
 use crate::late::is_late;
 use crate::memory::Memory;
+use crate::model::{powered, Model};
 use crate::replay::{answer_case, Case, LATE_BYTE, TICK};
 use crate::rng::Rng;
-use crate::scene::{fields, Kind, State, SCENE};
+use crate::scene::{fields, Sort, State, SCENE};
 use crate::states::{accepted_state, wild_state};
 use crate::vic::fsm::{DisplayState, GraphicsMode};
 use crate::vic::glue::Machine;
@@ -29,6 +32,10 @@ const CHECKS: &[Check] = &[
     ("the mask follows the slots", the_mask),
     ("what the original does where the port leaves it", the_originals_own),
     ("a late DEN, and the stand-in of it", the_late_den),
+    ("the 6567R8: its line, its frame and its slots", the_column),
+    ("the 6567R8: power-up, and what is refused", the_kinds),
+    ("the 6567R8: what goes with sprite 0's slot", the_first_slot),
+    ("the 6567R8: slots and arbitration", the_slots),
 ];
 
 pub fn selftest() -> bool {
@@ -41,27 +48,29 @@ pub fn selftest() -> bool {
     sound
 }
 
-fn any_state(r: &mut Rng) -> State {
-    let cycle = r.within(1, 63) as u16;
+fn any_state(r: &mut Rng, kind: u8) -> State {
+    let cycle = r.within(1, column(kind).last_cycle.into()) as u16;
     if r.flag() {
-        accepted_state(r, cycle)
+        accepted_state(r, kind, cycle)
     } else {
-        wild_state(r)
+        wild_state(r, kind)
     }
 }
 
 fn scenes_keep_their_bytes() -> bool {
     let mut r = Rng::new(1);
-    (0..20_000).all(|_| {
-        let state = any_state(&mut r);
+    (0..=255).cycle().take(20_000).all(|number: u8| {
+        let mut state = any_state(&mut r, number % 2);
+        // Any number is a kind in a scene.
+        state.kind = number;
         let bytes = state.encode();
-        State::decode(&bytes).is_some_and(|again| again == state && again.encode() == bytes)
+        bytes[308] == number && State::decode(&bytes).is_some_and(|again| again == state && again.encode() == bytes)
     })
 }
 
 /// Every byte that may not be anything is tried with all its values.
 fn others_are_told() -> bool {
-    let bytes = accepted_state(&mut Rng::new(2), 17).encode();
+    let bytes = accepted_state(&mut Rng::new(2), MOS6569, 17).encode();
     let with = |place: usize, value: u8| {
         let mut other = bytes;
         other[place] = value;
@@ -70,11 +79,11 @@ fn others_are_told() -> bool {
     let head = (0..4).all(|place| (0..=255).all(|value| with(place, value) == (value == bytes[place])));
     let limits = fields().iter().all(|field| {
         (0..=255).all(|value| {
-            let allowed = match field.kind {
-                Kind::Number | Kind::Signed => true,
-                Kind::Flag => value <= 1,
-                Kind::Mode => value <= 7,
-                Kind::Place => value <= 39 || value == 255,
+            let allowed = match field.sort {
+                Sort::Number | Sort::Signed => true,
+                Sort::Flag => value <= 1,
+                Sort::Mode => value <= 7,
+                Sort::Place => value <= 39 || value == 255,
             };
             with(field.offset, value) == allowed
         })
@@ -87,7 +96,7 @@ fn the_chip_keeps_a_scene() -> bool {
     let mut r = Rng::new(3);
     let mut machine = Machine::new(Memory::new());
     (0..20_000).all(|_| {
-        let state = any_state(&mut r);
+        let state = any_state(&mut r, MOS6569);
         machine.load(&state);
         machine.state() == state
     })
@@ -116,7 +125,7 @@ fn power_up() -> bool {
 
 fn charted(bytes: &[u8]) -> String {
     let mut text = Vec::new();
-    chart(bytes, &mut text, true).expect("a list can be written");
+    chart(bytes, &mut text, Machine::new).expect("a list can be written");
     String::from_utf8(text).expect("a chart is plain text")
 }
 
@@ -130,7 +139,7 @@ fn the_chart() -> bool {
 fn the_dump() -> bool {
     let dumped = |bytes: &[u8]| {
         let mut text = Vec::new();
-        dump(bytes, &mut text, true).expect("a list can be written");
+        dump(bytes, &mut text, Machine::new).expect("a list can be written");
         String::from_utf8(text).expect("a dump is plain text")
     };
     let head = "$version Nickelplait $end
@@ -226,7 +235,7 @@ fn the_twelve() -> bool {
     let mut machine = Machine::new(Memory::new());
     let masks = [63, 54, 55].map(|cycle| mask_at(&mut machine, cycle)) == [0x1C, 0, 0x01];
     let mut tick = |change: &dyn Fn(&mut State)| {
-        machine.power_up();
+        machine.power_up(MOS6569);
         let mut state = machine.state();
         change(&mut state);
         let bytes = answer_case(&mut machine, &Case { call: TICK, bank: 0, arguments: [0; 4], state });
@@ -263,7 +272,7 @@ fn the_twelve() -> bool {
         s.rc = 7;
     });
 
-    machine.power_up();
+    machine.power_up(MOS6569);
     let mut state = machine.state();
     state.pending = Some(5);
     let bytes = answer_case(&mut machine, &Case { call: LATE_BYTE, bank: 0, arguments: [0xA7, 0, 0, 0], state });
@@ -352,7 +361,7 @@ fn the_late_den() -> bool {
     let mut alone = Machine::judging(Memory::new(), true);
     let (mut late, mut apart) = (0, 0);
     let sound = (0..100_000).all(|number: u32| {
-        let mut state = accepted_state(&mut r, 1 + (number % 63) as u16);
+        let mut state = accepted_state(&mut r, MOS6569, 1 + (number % 63) as u16);
         state.clock = state.clock.min(CLOCK_LIMIT - 2);
         if number % 2 == 0 {
             state.raster = r.pick(&[0x2F, 0x30, 0x30, 0x30]);
@@ -373,7 +382,7 @@ fn the_late_den() -> bool {
         apart += u64::from(judge != original);
         judge.den_latch == (latch && !wraps) && original.den_latch == (old && !wraps) && (judge == original || is_late(&state))
     });
-    sound && beside.late == late && alone.late == late && 0 < apart && apart <= late
+    sound && beside.late() == late && alone.late() == late && 0 < apart && apart <= late
 }
 
 /// In the middle of a line that is displayed, row 0, far from any forced bad line.
@@ -385,4 +394,154 @@ fn displaying() -> VicII {
     chip.display_state = DisplayState::Display;
     chip.border.char_data_output_disabled = false;
     chip
+}
+
+/// A chip of a kind at power-up but for its cycle and some changes, ticked so often, with 0x5A at the idle address.
+fn ticked(kind: u8, cycle: u16, ticks: u16, change: impl Fn(&mut State)) -> State {
+    let mut state = State { cycle, ..powered(kind) };
+    change(&mut state);
+    let mut memory = Memory::new();
+    memory.ram[0x3FFF] = 0x5A;
+    let mut model = Model::new(memory, kind);
+    model.load(&state);
+    for _ in 0..ticks {
+        model.tick().expect("the tick is taken");
+    }
+    model.state()
+}
+
+/// The article's numbers (3.4 and its timing diagrams), typed here a second time.
+fn the_column() -> bool {
+    let found = |column: crate::kind::Column, slot: fn(usize) -> Slot| {
+        let place = |n: usize| (1..=column.last_cycle).find(|cycle| column.slot(*cycle) == Some(slot(n)));
+        (0..8).map(|n| place(n).unwrap_or(0)).collect::<Vec<u16>>()
+    };
+    let slots = found(PAL, Slot::Pointer) == [58, 60, 62, 1, 3, 5, 7, 9]
+        && found(PAL, Slot::Data) == [59, 61, 63, 2, 4, 6, 8, 10]
+        && found(NTSC, Slot::Pointer) == [59, 61, 63, 65, 2, 4, 6, 8]
+        && found(NTSC, Slot::Data) == [60, 62, 64, 1, 3, 5, 7, 9];
+    // Cycles 1 to 10, and 55 to 65.
+    let first = [0x38, 0x30, 0x70, 0x60, 0xE0, 0xC0, 0xC0, 0x80, 0x80, 0];
+    let last = [0, 0x01, 0x01, 0x03, 0x03, 0x07, 0x06, 0x0E, 0x0C, 0x1C, 0x18];
+    let masks = (1..).zip(first).chain((55..).zip(last)).all(|(cycle, mask)| NTSC.mask(cycle) == mask)
+        && (11..55).chain(66..=130).chain([0, 0xFFFF]).all(|cycle| NTSC.mask(cycle) == 0);
+    let line = [62, 63, 64, 65].map(|cycle| ticked(MOS6567R8, cycle, 1, |_| {}).cycle) == [63, 64, 65, 1];
+    let beam = |s: State| (s.cycle, s.raster, s.frame_flag, s.irq_flags);
+    let last_line = beam(ticked(MOS6567R8, 65, 1, |s| s.raster = 261)) == (1, 262, false, 0);
+    let ends = beam(ticked(MOS6567R8, 65, 1, |_| {})) == (1, 262, true, 0) && beam(ticked(MOS6567R8, 65, 2, |_| {})) == (2, 0, false, 1);
+    let beyond = beam(ticked(MOS6567R8, 65, 65 * 263 * 2, |s| s.compare = 263)) == (65, 262, false, 0);
+    let frame = NTSC.frame() == 17_095 && PAL.frame() == 19_656;
+    slots && masks && line && last_line && ends && beyond && frame
+}
+
+/// 02 (iv): the kind at power-up, and 12 before 3.
+fn the_kinds() -> bool {
+    let original = Machine::new(Memory::new()).state();
+    let powers_up = powered(MOS6569) == original
+        && powered(MOS6567R8) == State { kind: MOS6567R8, cycle: 65, raster: 262, ..original.clone() }
+        && UNKNOWN.iter().all(|kind| powered(*kind) == State { kind: *kind, ..original.clone() });
+
+    let mut model = Model::new(Memory::new(), MOS6569);
+    let mut refused = |kind: u8, bank: u8, late: bool, change: &dyn Fn(&mut State)| -> Option<Refusal> {
+        let mut state = powered(kind);
+        change(&mut state);
+        model.load(&state);
+        model.see(bank);
+        let told = if late { model.late_byte(1) } else { model.tick() };
+        // A refused call leaves the state.
+        assert!(told.is_ok() || model.state() == state);
+        told.err()
+    };
+    let at = |cycle: u16, raster: u16| move |s: &mut State| (s.cycle, s.raster) = (cycle, raster);
+    let ticks = refused(MOS6569, 0, false, &at(63, 311)).is_none()
+        && refused(MOS6569, 0, false, &at(64, 0)) == Some(3)
+        && refused(MOS6569, 0, false, &at(65, 262)) == Some(3)
+        && refused(MOS6569, 0, false, &at(1, 312)) == Some(3)
+        && refused(MOS6567R8, 0, false, &at(65, 262)).is_none()
+        && refused(MOS6567R8, 0, false, &at(66, 0)) == Some(3)
+        && refused(MOS6567R8, 0, false, &at(1, 263)) == Some(3)
+        && refused(MOS6567R8, 4, false, &at(1, 263)) == Some(2);
+    let unknown = UNKNOWN.iter().all(|kind| {
+        refused(*kind, 0, false, &at(63, 311)) == Some(12)
+            && refused(*kind, 0, false, &at(0, 0xFFFF)) == Some(12)
+            && refused(*kind, 0, false, &|s| s.clock = CLOCK_LIMIT) == Some(12)
+            && refused(*kind, 4, false, &at(63, 311)) == Some(2)
+            && refused(*kind, 4, true, &at(63, 311)) == Some(12)
+            && refused(*kind, 0, true, &|s| s.pending = Some(3)) == Some(12)
+    });
+    let late = refused(MOS6567R8, 4, true, &at(65, 262)).is_none() && refused(MOS6567R8, 0, true, &at(65, 263)) == Some(3);
+    powers_up && ticks && unknown && late
+}
+
+/// The comparisons in 56 and 57, MC and the display mask in 59, and what stays at its number: the row's end in 58, the end of the
+/// accesses in 55, the border's right edge in 56 and 57. An unknown kind is asked as a 6569.
+fn the_first_slot() -> bool {
+    // Sprite 0 on line 0x40, expanded, its flip-flop set.
+    let on_line = |s: &mut State| (s.raster, s.y[0], s.enable, s.y_expand) = (0x40, 0x40, 1, 1);
+    let dma = |cycle: u16| ticked(MOS6567R8, cycle, 1, on_line).dma;
+    let comparisons = [53, 54, 55, 56, 57].map(dma) == [0, 0, 1, 1, 0];
+    let flips = [54, 55, 56].map(|cycle| ticked(MOS6567R8, cycle, 1, |s| s.y_expand = 2).flip) == [0xFF, 0xFD, 0xFF];
+    let shown = |cycle: u16| {
+        let s = ticked(MOS6567R8, cycle, 1, |s| {
+            on_line(s);
+            (s.dma, s.sprites[0].base) = (1, 9);
+        });
+        (s.sprites[0].mc, s.sprite_display)
+    };
+    let loads = [56, 57, 58, 59].map(shown) == [(0, 0), (0, 0), (9, 1), (0, 0)];
+    let rc = |cycle: u16| ticked(MOS6567R8, cycle, 1, |s| s.displaying = true).rc;
+    let accessing = |cycle: u16| ticked(MOS6567R8, cycle, 1, |s| s.accessing = true).accessing;
+    let closed = |ctrl2: u8| [54, 55, 56, 57].map(|cycle| ticked(MOS6567R8, cycle, 1, |s| (s.main_border, s.ctrl2) = (false, ctrl2)).main_border);
+    let stays = [56, 57, 58].map(rc) == [0, 1, 0]
+        && [53, 54].map(accessing) == [true, false]
+        && closed(0) == [false, true, false, false]
+        && closed(8) == [false, false, true, false];
+
+    let asked = |kind: u8, cycle: u16| {
+        let mut model = Model::new(Memory::new(), kind);
+        model.load(&State { cycle, dma: 1, ..powered(kind) });
+        let high = model.ba_high_at_phi1();
+        model.write_y_expand(1);
+        (high, model.state().flip)
+    };
+    // High by the mask before, and the flip-flop reset by a write.
+    let specials = [55, 56, 57, 58].map(|cycle| asked(MOS6567R8, cycle)) == [(true, 0xFF), (true, 0xFE), (true, 0xFF), (false, 0xFF)];
+    let unknown = UNKNOWN.iter().all(|kind| [54, 55, 56, 57].map(|cycle| asked(*kind, cycle)) == [(true, 0xFF), (true, 0xFE), (true, 0xFF), (false, 0xFF)]);
+    // The line's end of the border is its last cycle.
+    let border = [62, 63, 64].map(|cycle| ticked(MOS6567R8, cycle, 1, |s| (s.vertical_border, s.bottom) = (false, 262)).vertical_border);
+    comparisons && flips && loads && stays && specials && unknown && border == [false, false, true]
+}
+
+/// Slots after the arbitration in 1, 2 and 59, before it in all others; and BA between a bad line and sprite 0.
+fn the_slots() -> bool {
+    // Without DMA the arbitration takes AEC away: a slot that comes before it still reads.
+    let byte = |cycle: u16, sprite: usize, byte: usize| {
+        ticked(MOS6567R8, cycle, 1, |s| {
+            (s.aec_low, s.aec_counter) = (true, -1);
+            s.sprites[sprite].bytes = [7; 3];
+        })
+        .sprites[sprite]
+            .bytes[byte]
+    };
+    let after = [byte(65, 3, 0), byte(1, 4, 2), byte(58, 0, 2)] == [0xFF; 3];
+    let before = [byte(64, 3, 2), byte(2, 4, 0), byte(3, 5, 2), byte(8, 7, 0), byte(59, 0, 0), byte(60, 1, 2), byte(63, 2, 0)] == [0x5A; 7];
+    // No slot in 10 and 58; phase 1 of a data slot reads whatever AEC is.
+    let none = (0..8).all(|k| byte(9, k, 0) == 7 && byte(9, k, 2) == 7 && byte(57, k, 2) == 7) && byte(65, 3, 1) == 0x5A;
+
+    // Sprite 0 begins in 56: AEC is low from 59 on, and its first byte is read there.
+    let starts = |ticks: u16| ticked(MOS6567R8, 55, ticks, |s| (s.raster, s.y[0], s.enable) = (0x40, 0x40, 1));
+    let aec = [1, 2, 3, 4, 5, 6].map(|ticks| (starts(ticks).ba_low, starts(ticks).aec_low));
+    let falls = aec == [(true, false), (true, false), (true, false), (true, true), (true, true), (false, false)];
+    let read = starts(4).sprites[0];
+    let late = ticked(MOS6567R8, 58, 1, |s| (s.dma, s.sprites[0].dma) = (1, true)).sprites[0];
+    let bytes = (read.bytes[2], read.mc) == (0, 1) && (late.bytes[2], late.mc) == (0xFF, 1);
+
+    // A bad line with sprite 0: BA has a gap in 55, which the 6569 has not.
+    let bad = |kind: u8| {
+        [54, 55, 56].map(|cycle| {
+            let lines = |s: &mut State| (s.raster, s.den_latch, s.dma, s.sprites[0].dma) = (0x30, true, 1, true);
+            ticked(kind, 53, cycle - 53, lines).ba_low
+        })
+    };
+    after && before && none && falls && bytes && bad(MOS6567R8) == [true, false, true] && bad(MOS6569) == [true, true, true]
 }

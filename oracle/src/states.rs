@@ -1,16 +1,23 @@
 //! Made-up states: accepted ones with a lean towards the corners, refused ones, and wild ones.
 
 use crate::accept::{vmli_limit, CLOCK_LIMIT};
+use crate::kind::{column, Column};
 use crate::rng::Rng;
 use crate::scene::{Matrix, Sprite, State};
 
 /// Lines at which something begins or ends, and their neighbours.
-const LINES: [u16; 24] =
-    [0, 1, 0x2F, 0x30, 0x31, 0x32, 0x33, 0x34, 0x36, 0x37, 0x38, 0xF6, 0xF7, 0xF8, 0xFA, 0xFB, 0xFC, 0xFF, 0x100, 0x101, 0x130, 309, 310, 311];
+const LINES: [u16; 21] = [0, 1, 0x2F, 0x30, 0x31, 0x32, 0x33, 0x34, 0x36, 0x37, 0x38, 0xF6, 0xF7, 0xF8, 0xFA, 0xFB, 0xFC, 0xFF, 0x100, 0x101, 0x130];
 
-/// Any accepted state at a cycle. Every field takes every value that acceptance allows.
-pub fn accepted_state(r: &mut Rng, cycle: u16) -> State {
-    let (raster, compared) = lines(r, cycle);
+/// One of them, or of the last three of a frame.
+fn corner(r: &mut Rng, column: Column) -> u16 {
+    let line = if r.chance(1, 7) { column.last_line - r.below(3) as u16 } else { r.pick(&LINES) };
+    line.min(column.last_line)
+}
+
+/// Any accepted state of a known kind at a cycle. Every field takes every value that acceptance allows.
+pub fn accepted_state(r: &mut Rng, kind: u8, cycle: u16) -> State {
+    let column = column(kind);
+    let (raster, compared) = lines(r, column, cycle);
     let clock = clock(r);
     let dma = r.mask();
     let agree = r.chance(3, 5);
@@ -39,7 +46,7 @@ pub fn accepted_state(r: &mut Rng, cycle: u16) -> State {
         multicolour_1: r.byte(),
         ctrl1: ctrl1(r, compared),
         ctrl2: r.byte(),
-        compare: compare_line(r, compared),
+        compare: compare_line(r, column, compared),
         // Half of them put the characters at 0x1000 or 0x1800, where two banks show ROM.
         memory_pointers: if r.flag() { (r.byte() & 0xF1) | r.pick(&[0x04, 0x06]) } else { r.byte() },
         border_colour: r.byte(),
@@ -101,6 +108,7 @@ pub fn accepted_state(r: &mut Rng, cycle: u16) -> State {
         forced_clock: forced_clock(r, clock),
         clock,
         pending: if r.flag() { Some(r.below(40) as u8) } else { None },
+        kind,
     }
 }
 
@@ -148,16 +156,18 @@ pub fn bend_to_idle(r: &mut Rng, s: &mut State) {
     s.forced_clock = s.clock + r.pick(&[0, 1, 2, 2, 2, 3, 4]);
 }
 
-/// Puts one field at the edge of what is accepted, or just past it.
+/// Puts one field at the edge of what the state's kind accepts, or just past it.
 pub fn bend_to_edge(r: &mut Rng, s: &mut State, past: bool) {
     fn choose<T: Copy>(r: &mut Rng, past: bool, inside: &[T], outside: &[T]) -> T {
         r.pick(if past { outside } else { inside })
     }
     let k = r.below(8) as usize;
+    let (cycle, line) = (column(s.kind).last_cycle, column(s.kind).last_line);
     match r.below(14) {
-        0 if past => s.cycle = r.pick(&[0, 64, 65, 256, 0x3F01, 0xFFFF]),
-        0 | 1 => s.raster = choose(r, past, &[0, 311], &[312, 511, 512, 0x0130 + 0x200, 0xFFFF]),
-        2 => s.compare = choose(r, past, &[0, 511, 312], &[512, 0x8000, 0xFFFF]),
+        // On a 6569 just past the edge are cycles that only a 6567R8 has, on that one lines that only a 6569 has.
+        0 if past => s.cycle = r.pick(&[0, cycle + 1, cycle + 2, 128, 256, 256 + cycle, 0x3F01, 0xFFFF]),
+        0 | 1 => s.raster = choose(r, past, &[0, line], &[line + 1, line + 2, 312, 511, 512, 0x0130 + 0x200, 0xFFFF]),
+        2 => s.compare = choose(r, past, &[0, 511, line + 1], &[512, 0x8000, 0xFFFF]),
         3 => s.aec_counter = choose(r, past, &[-1, 3], &[-2, 4, -128, 127]),
         4 => s.vc = choose(r, past, &[0, 1023], &[1024, 0xFFFF]),
         5 => s.vc_base = choose(r, past, &[0, 1023], &[1024, 0xFFFF]),
@@ -176,9 +186,9 @@ pub fn bend_to_edge(r: &mut Rng, s: &mut State, past: bool) {
     }
 }
 
-/// Any scene at all. Few of these are accepted; the calls that never refuse take them.
-pub fn wild_state(r: &mut Rng) -> State {
-    let mut s = accepted_state(r, 1);
+/// Any scene at all of a kind. Few of these are accepted; the calls that never refuse take them.
+pub fn wild_state(r: &mut Rng, kind: u8) -> State {
+    let mut s = accepted_state(r, kind, 1);
     s.cycle = if r.flag() { r.below(70) as u16 } else { r.word() };
     s.raster = r.word();
     s.compare = r.word();
@@ -201,13 +211,16 @@ pub fn wild_state(r: &mut Rng) -> State {
 
 /// The state's line, and the one that the next tick compares: cycle 1 moves the raster on first, but
 /// not from the last line.
-fn lines(r: &mut Rng, cycle: u16) -> (u16, u16) {
-    let line = if r.chance(2, 5) { r.pick(&LINES) } else { r.below(312) as u16 };
-    match cycle {
-        63 if line == 0 || r.chance(1, 6) => (311, 311),
-        63 if r.chance(1, 6) => (0x2F, 0x30),
-        63 => (line - 1, line),
-        _ => (line, line),
+fn lines(r: &mut Rng, column: Column, cycle: u16) -> (u16, u16) {
+    let line = if r.chance(2, 5) { corner(r, column) } else { r.below(u64::from(column.last_line) + 1) as u16 };
+    if cycle != column.last_cycle {
+        (line, line)
+    } else if line == 0 || r.chance(1, 6) {
+        (column.last_line, column.last_line)
+    } else if r.chance(1, 6) {
+        (0x2F, 0x30)
+    } else {
+        (line - 1, line)
     }
 }
 
@@ -227,11 +240,11 @@ fn ctrl1(r: &mut Rng, raster: u16) -> u8 {
     value
 }
 
-fn compare_line(r: &mut Rng, raster: u16) -> u16 {
+fn compare_line(r: &mut Rng, column: Column, raster: u16) -> u16 {
     match r.below(6) {
         0 | 1 => raster,
         2 => 0,
-        3 => r.pick(&LINES),
+        3 => corner(r, column),
         _ => r.below(512) as u16,
     }
 }

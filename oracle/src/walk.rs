@@ -1,78 +1,78 @@
-//! States as runs have them: a host that ticks the original from power-up and calls it at random.
+//! States as runs have them: a host that ticks a chip from power-up and calls it at random.
 
-use crate::memory::Memory;
+use crate::chip::Chip;
+use crate::kind::{column, Column};
 use crate::rng::Rng;
 use crate::scene::State;
-use crate::vic::glue::Machine;
 
-/// Ticks of one frame.
-const FRAME: u64 = 63 * 312;
-
-pub struct Walker {
-    machine: Machine,
+pub struct Walker<C> {
+    chip: C,
+    kind: u8,
+    column: Column,
     /// How many ticks lie between two calls, about: from a busy host to a quiet one.
     quiet: u64,
     /// Ticks left until the next power-up.
     left: u64,
 }
 
-impl Walker {
-    pub fn new(memory: Memory) -> Self {
-        Self { machine: Machine::new(memory), quiet: 1, left: 0 }
+impl<C: Chip> Walker<C> {
+    pub fn new(chip: C, kind: u8) -> Self {
+        Self { chip, kind, column: column(kind), quiet: 1, left: 0 }
     }
 
     /// Ticks on to the next time at this cycle, by way of at least a few lines at times.
     pub fn state_at(&mut self, r: &mut Rng, cycle: u16) -> State {
         if r.chance(1, 4) {
-            for _ in 0..r.below(4 * 63) {
+            for _ in 0..r.below(4 * u64::from(self.column.last_cycle)) {
                 self.advance(r);
             }
         }
         self.advance(r);
-        while self.machine.state().cycle != cycle {
+        while self.chip.state().cycle != cycle {
             self.advance(r);
         }
         // Some hosts have called since the tick.
         if r.chance(1, 3) {
             self.call(r);
         }
-        self.machine.state()
+        self.chip.state()
     }
 
     fn advance(&mut self, r: &mut Rng) {
         if self.left == 0 {
-            self.machine.power_up();
-            self.machine.memory.bank = r.below(4) as u8;
+            let frame = self.column.frame();
+            self.chip.power_up(self.kind);
+            self.chip.see(r.below(4) as u8);
             self.quiet = r.pick(&[3, 20, 120, 1000]);
-            self.left = FRAME + r.below(3 * FRAME);
+            self.left = frame + r.below(3 * frame);
             self.set_up(r);
         }
         self.left -= 1;
         if r.chance(1, self.quiet) {
             self.call(r);
         }
-        self.machine.tick().expect("runs from power-up stay accepted");
+        self.chip.tick().expect("runs from power-up stay accepted");
         // A board hands over its byte after every cycle; some hosts forget it at times.
         if r.chance(3, 4) {
-            self.machine.late_byte(r.byte()).expect("runs from power-up stay accepted");
+            self.chip.late_byte(r.byte()).expect("runs from power-up stay accepted");
         }
     }
 
     /// What a program does first, so that a quiet host has something on its screen too.
     fn set_up(&mut self, r: &mut Rng) {
         self.controls(r);
-        self.machine.border_compares();
-        self.machine.write(0x15, r.mask());
-        self.machine.write(0x18, r.byte());
-        self.machine.write(0x1A, r.byte());
-        self.machine.write_y_expand(r.mask());
+        self.chip.border_compares();
+        self.chip.write(0x15, r.mask());
+        self.chip.write(0x18, r.byte());
+        self.chip.write(0x1A, r.byte());
+        self.chip.write_y_expand(r.mask());
         for k in 0..8 {
-            self.machine.write(2 * k + 1, r.byte());
+            self.chip.write(2 * k + 1, r.byte());
         }
     }
 
     fn controls(&mut self, r: &mut Rng) {
-        let raster = self.machine.state().raster;
+        let raster = self.chip.state().raster;
         let mut ctrl1 = r.byte();
         if r.chance(4, 5) {
             ctrl1 |= 0x10;
@@ -80,27 +80,27 @@ impl Walker {
         if r.chance(1, 2) {
             ctrl1 = (ctrl1 & 0xF8) | (raster as u8 & 7);
         }
-        let compare = if r.flag() { r.below(512) as u16 } else { (raster + r.below(3) as u16) % 312 };
-        self.machine.place_controls(ctrl1, r.byte(), compare).expect("the line is below 512");
+        let compare = if r.flag() { r.below(512) as u16 } else { (raster + r.below(3) as u16) % (self.column.last_line + 1) };
+        self.chip.place_controls(ctrl1, r.byte(), compare).expect("the line is below 512");
     }
 
     fn call(&mut self, r: &mut Rng) {
-        let raster = self.machine.state().raster as u8;
+        let raster = self.chip.state().raster as u8;
         match r.below(10) {
             0 | 1 => self.controls(r),
-            2 => self.machine.write(r.byte(), r.byte()),
+            2 => self.chip.write(r.byte().into(), r.byte()),
             // A sprite on this line or the next.
-            3 => self.machine.write(2 * r.below(8) as u8 + 1, raster.wrapping_add(r.below(3) as u8)),
-            4 => self.machine.write(0x15, r.mask()),
-            5 => self.machine.write_y_expand(r.mask()),
-            6 => self.machine.border_compares(),
+            3 => self.chip.write(2 * r.below(8) as u16 + 1, raster.wrapping_add(r.below(3) as u8)),
+            4 => self.chip.write(0x15, r.mask()),
+            5 => self.chip.write_y_expand(r.mask()),
+            6 => self.chip.border_compares(),
             // What a $D011 write does that forces a bad line.
             7 => {
                 self.controls(r);
-                self.machine.place_display(true, r.flag(), r.flag(), r.flag()).expect("the clock is small");
+                self.chip.place_display_now([true, r.flag(), r.flag(), r.flag()]).expect("the clock is small");
             }
-            8 => self.machine.place_display(r.flag(), r.flag(), r.flag(), r.flag()).expect("the clock is small"),
-            _ => self.machine.memory.bank = r.below(4) as u8,
+            8 => self.chip.place_display_now([r.flag(), r.flag(), r.flag(), r.flag()]).expect("the clock is small"),
+            _ => self.chip.see(r.below(4) as u8),
         }
     }
 }

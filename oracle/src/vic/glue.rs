@@ -2,20 +2,13 @@
 
 use super::fsm::{CharacterAccessState, DisplayState, DisplayTransition, GraphicsMode};
 use super::state::VicII;
-use crate::accept::{accepted, clock_in_range, CLOCK_LIMIT};
+use crate::accept::{clock_in_range, takes, CLOCK_LIMIT};
+use crate::chip::{Chip, Refusal, BANK_ABOVE_3, CLOCK_AT_END, COMPARE_ABOVE_511, FORCED_CLOCK_OUT_OF_RANGE};
 use crate::clockchip::signals::LineLevel;
+use crate::kind::MOS6569;
 use crate::late::{comes_late, Met};
 use crate::memory::Memory;
 use crate::scene::State;
-
-/// A refusal's number in docs/SCOPE.md.
-pub type Refusal = u8;
-pub const WRONG_LENGTH: Refusal = 1;
-pub const BANK_ABOVE_3: Refusal = 2;
-pub const NOT_ACCEPTED: Refusal = 3;
-pub const CLOCK_AT_END: Refusal = 4;
-pub const COMPARE_ABOVE_511: Refusal = 5;
-pub const FORCED_CLOCK_OUT_OF_RANGE: Refusal = 6;
 
 /// The fields that the original and a scene hold alike, each pair said once: `set` copies one way or the other.
 macro_rules! alike {
@@ -93,11 +86,11 @@ macro_rules! alike {
 /// The chip and the memory lent to it.
 pub struct Machine {
     chip: VicII,
-    pub memory: Memory,
+    memory: Memory,
     /// Whether a late DEN sets the latch, which is ours beside the original.
     stands_in: bool,
     /// How many ticks found DEN late.
-    pub late: u64,
+    late: u64,
 }
 
 impl Machine {
@@ -111,16 +104,8 @@ impl Machine {
         let mut machine = Self { chip: VicII::new(), memory, stands_in: false, late: 0 };
         // Drawing costs time and feeds nothing back; `check` compares both arms.
         machine.draw(false);
-        machine.power_up();
+        machine.power_up(MOS6569);
         machine
-    }
-
-    /// docs/SCOPE.md's power-up: the parts' own values, but the forced clock is 0 and not -40.
-    pub fn power_up(&mut self) {
-        let draw = self.chip.screen.compose_video();
-        self.chip = VicII::new();
-        self.draw(draw);
-        self.chip.forced_badline_c_access_clock = 0;
     }
 
     /// The original's own power-up, with nothing put right.
@@ -131,24 +116,6 @@ impl Machine {
     /// Chooses the arm of the original's `render_live`.
     pub fn draw(&mut self, enabled: bool) {
         self.chip.screen.set_compose_video(enabled);
-    }
-
-    /// One tick, or its refusal.
-    pub fn tick(&mut self) -> Result<(), Refusal> {
-        if self.memory.bank > 3 {
-            return Err(BANK_ABOVE_3);
-        }
-        // The build for a clock leaves the judge's own test out: a run from power-up keeps accepted states.
-        if cfg!(debug_assertions) && !accepted(&self.state()) {
-            return Err(NOT_ACCEPTED);
-        }
-        if self.chip.current_clock > CLOCK_LIMIT - 2 {
-            return Err(CLOCK_AT_END);
-        }
-        self.late_den();
-        // The clock given here is the emulator's own, for the bus latch that is not kept.
-        self.chip.tick_sequencer(&mut self.memory, 0);
-        Ok(())
     }
 
     /// The build for a clock runs the original alone, with nothing of ours beside it.
@@ -164,79 +131,6 @@ impl Machine {
         }
     }
 
-    /// Ticks and nothing else, for a clock: the state is one that a tick takes.
-    pub fn run(&mut self, ticks: u16, met: &mut Met) {
-        for _ in 0..ticks {
-            self.late_den();
-            self.chip.tick_sequencer(&mut self.memory, 0);
-            if self.watches() {
-                met.tick(self.late);
-            }
-        }
-    }
-
-    pub fn write(&mut self, address: u8, value: u8) {
-        self.write_at(address.into(), value);
-    }
-
-    /// A register by any address.
-    pub fn write_at(&mut self, address: u16, value: u8) {
-        self.chip.regs.write(address, value, &mut self.chip.irq);
-    }
-
-    pub fn write_y_expand(&mut self, value: u8) {
-        self.chip.sprites.write_y_expand(value, self.chip.timing.cycle, &mut self.chip.regs);
-    }
-
-    pub fn place_controls(&mut self, ctrl1: u8, ctrl2: u8, compare: u16) -> Result<(), Refusal> {
-        if compare > 511 {
-            return Err(COMPARE_ABOVE_511);
-        }
-        self.chip.regs.ctrl1 = ctrl1;
-        self.chip.regs.ctrl2 = ctrl2;
-        self.chip.regs.raster_irq = compare;
-        Ok(())
-    }
-
-    pub fn late_byte(&mut self, value: u8) -> Result<(), Refusal> {
-        if !accepted(&self.state()) {
-            return Err(NOT_ACCEPTED);
-        }
-        self.chip.complete_character_access(value);
-        Ok(())
-    }
-
-    pub fn border_compares(&mut self) {
-        self.chip.border.recompute_compare(self.chip.regs.rsel());
-    }
-
-    /// The forced clock is the state's clock, as in a run file and in replay.
-    pub fn place_display(&mut self, displaying: bool, entering: bool, accessing: bool, mode_changing: bool) -> Result<(), Refusal> {
-        self.place_display_at(displaying, entering, accessing, mode_changing, self.chip.current_clock)
-    }
-
-    /// The same with any forced clock.
-    pub fn place_display_at(&mut self, displaying: bool, entering: bool, accessing: bool, mode_changing: bool, forced: i64) -> Result<(), Refusal> {
-        if !clock_in_range(forced) {
-            return Err(FORCED_CLOCK_OUT_OF_RANGE);
-        }
-        self.chip.display_state = display(displaying);
-        self.chip.display_transition = transition(entering);
-        self.chip.character_access_state = access(accessing);
-        self.chip.mode_changing = mode_changing;
-        self.chip.forced_badline_c_access_clock = forced;
-        Ok(())
-    }
-
-    pub fn read(&self, address: u8, light_pen_x: u8, light_pen_y: u8) -> u8 {
-        self.read_at(address.into(), light_pen_x, light_pen_y)
-    }
-
-    /// A register by any address.
-    pub fn read_at(&self, address: u16, light_pen_x: u8, light_pen_y: u8) -> u8 {
-        self.chip.regs.read(address, &self.chip.irq, self.chip.timing.raster_line, light_pen_x, light_pen_y)
-    }
-
     /// The bytes that a sprite of this pointer fetches, one after another, by the original's own data slot.
     pub fn sprite_bytes(&mut self, pointer: u8, bank: u8) -> [u8; 64] {
         let mut sprite = self.chip.sprites.sprites[0];
@@ -249,16 +143,108 @@ impl Machine {
             sprite.fetch_buf[column]
         })
     }
+}
 
-    pub fn ba_high_at_phi1(&self) -> bool {
+impl Chip for Machine {
+    fn see(&mut self, bank: u8) {
+        self.memory.bank = bank;
+    }
+
+    /// docs/SCOPE.md's power-up: the parts' own values, but the forced clock is 0 and not -40.
+    fn power_up(&mut self, kind: u8) {
+        assert_eq!(kind, MOS6569, "the original is a 6569");
+        let draw = self.chip.screen.compose_video();
+        self.chip = VicII::new();
+        self.draw(draw);
+        self.chip.forced_badline_c_access_clock = 0;
+    }
+
+    fn tick(&mut self) -> Result<(), Refusal> {
+        if self.memory.bank > 3 {
+            return Err(BANK_ABOVE_3);
+        }
+        // The build for a clock leaves the judge's own test out: a run from power-up keeps accepted states.
+        if cfg!(debug_assertions) {
+            takes(&self.state())?;
+        }
+        if self.chip.current_clock > CLOCK_LIMIT - 2 {
+            return Err(CLOCK_AT_END);
+        }
+        self.late_den();
+        // The clock given here is the emulator's own, for the bus latch that is not kept.
+        self.chip.tick_sequencer(&mut self.memory, 0);
+        Ok(())
+    }
+
+    /// For a clock: the state is one that a tick takes.
+    fn run(&mut self, ticks: u16, met: &mut Met) {
+        for _ in 0..ticks {
+            self.late_den();
+            self.chip.tick_sequencer(&mut self.memory, 0);
+            if self.watches() {
+                met.tick(self.late);
+            }
+        }
+    }
+
+    fn write(&mut self, address: u16, value: u8) {
+        self.chip.regs.write(address, value, &mut self.chip.irq);
+    }
+
+    fn write_y_expand(&mut self, value: u8) {
+        self.chip.sprites.write_y_expand(value, self.chip.timing.cycle, &mut self.chip.regs);
+    }
+
+    fn place_controls(&mut self, ctrl1: u8, ctrl2: u8, compare: u16) -> Result<(), Refusal> {
+        if compare > 511 {
+            return Err(COMPARE_ABOVE_511);
+        }
+        self.chip.regs.ctrl1 = ctrl1;
+        self.chip.regs.ctrl2 = ctrl2;
+        self.chip.regs.raster_irq = compare;
+        Ok(())
+    }
+
+    fn late_byte(&mut self, value: u8) -> Result<(), Refusal> {
+        takes(&self.state())?;
+        self.chip.complete_character_access(value);
+        Ok(())
+    }
+
+    fn border_compares(&mut self) {
+        self.chip.border.recompute_compare(self.chip.regs.rsel());
+    }
+
+    fn place_display(&mut self, [displaying, entering, accessing, mode_changing]: [bool; 4], forced: i64) -> Result<(), Refusal> {
+        if !clock_in_range(forced) {
+            return Err(FORCED_CLOCK_OUT_OF_RANGE);
+        }
+        self.chip.display_state = display(displaying);
+        self.chip.display_transition = transition(entering);
+        self.chip.character_access_state = access(accessing);
+        self.chip.mode_changing = mode_changing;
+        self.chip.forced_badline_c_access_clock = forced;
+        Ok(())
+    }
+
+    fn read(&self, address: u16, light_pen_x: u8, light_pen_y: u8) -> u8 {
+        self.chip.regs.read(address, &self.chip.irq, self.chip.timing.raster_line, light_pen_x, light_pen_y)
+    }
+
+    fn ba_high_at_phi1(&self) -> bool {
         self.chip.ba_high_at_phi1()
     }
 
-    pub fn sprites_with_dma(&self) -> u8 {
+    fn sprites_with_dma(&self) -> u8 {
         self.chip.sprites.sprite_dma.count_ones() as u8
     }
 
-    pub fn load(&mut self, s: &State) {
+    fn late(&self) -> u64 {
+        self.late
+    }
+
+    fn load(&mut self, s: &State) {
+        assert_eq!(s.kind, MOS6569, "the original is a 6569");
         let c = &mut self.chip;
         macro_rules! take {
             ($theirs:expr, $ours:expr) => {
@@ -284,7 +270,7 @@ impl Machine {
         c.pending_character_access = s.pending.map(usize::from);
     }
 
-    pub fn state(&self) -> State {
+    fn state(&self) -> State {
         let c = &self.chip;
         let mut s = State::default();
         macro_rules! give {

@@ -1,0 +1,80 @@
+//! A chip behind the port's calls. The original is one, the model another; which of them judges goes by the kind.
+
+use crate::kind::MOS6569;
+use crate::late::Met;
+use crate::memory::Memory;
+use crate::model::Model;
+use crate::scene::State;
+use crate::vic::glue::Machine;
+
+/// A refusal's number in docs/FORMATS.md.
+pub type Refusal = u8;
+pub const WRONG_LENGTH: Refusal = 1;
+pub const BANK_ABOVE_3: Refusal = 2;
+pub const NOT_ACCEPTED: Refusal = 3;
+pub const CLOCK_AT_END: Refusal = 4;
+pub const COMPARE_ABOVE_511: Refusal = 5;
+pub const FORCED_CLOCK_OUT_OF_RANGE: Refusal = 6;
+pub const UNKNOWN_KIND: Refusal = 12;
+
+pub trait Chip {
+    /// The scene that it is in.
+    fn state(&self) -> State;
+    fn load(&mut self, state: &State);
+    /// The bank that it sees of the memory lent to it.
+    fn see(&mut self, bank: u8);
+
+    fn power_up(&mut self, kind: u8);
+    fn tick(&mut self) -> Result<(), Refusal>;
+    /// A register by any address.
+    fn write(&mut self, address: u16, value: u8);
+    fn write_y_expand(&mut self, value: u8);
+    fn place_controls(&mut self, ctrl1: u8, ctrl2: u8, compare: u16) -> Result<(), Refusal>;
+    fn late_byte(&mut self, value: u8) -> Result<(), Refusal>;
+    fn border_compares(&mut self);
+    /// Display, transition, access and mode flag, and the forced clock.
+    fn place_display(&mut self, flags: [bool; 4], forced: i64) -> Result<(), Refusal>;
+    fn read(&self, address: u16, light_pen_x: u8, light_pen_y: u8) -> u8;
+    fn ba_high_at_phi1(&self) -> bool;
+    fn sprites_with_dma(&self) -> u8;
+
+    /// How many ticks found DEN late, where that is another's rule than the chip's own.
+    fn late(&self) -> u64 {
+        0
+    }
+
+    /// Ticks and nothing else, as far as they are taken.
+    fn run(&mut self, ticks: u16, met: &mut Met) {
+        for _ in 0..ticks {
+            if self.tick().is_err() {
+                return;
+            }
+            met.tick(self.late());
+        }
+    }
+
+    /// The forced clock is the state's clock, as in a run file and in replay.
+    fn place_display_now(&mut self, flags: [bool; 4]) -> Result<(), Refusal> {
+        self.place_display(flags, self.state().clock)
+    }
+}
+
+/// Both judges: the original for the 6569, the model for every other kind.
+pub struct Judges {
+    pub original: Machine,
+    pub model: Model,
+}
+
+impl Judges {
+    pub fn new(memory: Memory, alone: bool) -> Self {
+        Self { model: Model::new(memory.clone(), MOS6569), original: Machine::judging(memory, alone) }
+    }
+
+    pub fn of(&mut self, kind: u8) -> &mut dyn Chip {
+        if kind == MOS6569 {
+            &mut self.original
+        } else {
+            &mut self.model
+        }
+    }
+}
