@@ -1,29 +1,63 @@
 # What tools/chart and tools/dump have in common; sourced by them, which say `does`, the verb of their help.
-# Runs the program of the caller's name on a run file or on a readable text, which tools/mkrun turns into one; builds it first where it is not there.
+# Runs the program of the caller's name and of a chip's kind on a run file or on a readable text, which tools/mkrun turns into one; builds it first where it is not there.
 set -euo pipefail
 name=$(basename "$0")
 top=$(cd "$(dirname "$0")/.." && pwd)
 
-case ${1:-} in
--h | --help)
-    echo "usage: tools/$name [FILE.run | FILE.txt]   (no file: standard input)"
-    echo "$does"
-    exit 0
+wrong() {
+    echo "tools/$name: $1" >&2
+    exit 2
+}
+
+files=() said=()
+while [ $# -gt 0 ]; do
+    case $1 in
+    -h | --help)
+        echo "usage: tools/$name [--kind 6569 | --kind 6567R8] [FILE.run | FILE.txt]   (no file: standard input)"
+        echo "$does"
+        echo "A text may say its kind itself, by \`chip KIND\`; what says none is run on a 6569."
+        exit 0
+        ;;
+    --kind)
+        [ $# -gt 1 ] || wrong "--kind wants a kind: 6569 or 6567R8"
+        said=(--kind "$2")
+        shift
+        ;;
+    --kind=*) said=(--kind "${1#*=}") ;;
+    -*) wrong "$1 is no option; see --help" ;;
+    *) files+=("$1") ;;
+    esac
+    shift
+done
+[ ${#files[@]} -le 1 ] || wrong "one file at most; see --help"
+for file in "${files[@]}"; do
+    if [ ! -r "$file" ] || [ -d "$file" ]; then wrong "$file cannot be read"; fi
+done
+
+# A kind has a program of its own.
+choose() {
+    case ${1^^} in
+    6569) crate=$name ;;
+    6567R8) crate=${name}_ntsc ;;
+    *) wrong "\`$1\` is no kind of chip: 6569 or 6567R8" ;;
+    esac
+}
+choose "${said[1]-6569}"
+case ${files[0]-} in
+*.txt)
+    # made first, so that nothing is proved for a text with a fault, and nothing is written
+    made=$(mktemp)
+    trap 'rm -f "$made"' EXIT
+    kind=$("$top/tools/mkrun" "${said[@]}" --print-kind -o "$made" "${files[0]}")
+    choose "$kind"
+    files=("$made")
     ;;
 esac
-if [ $# -gt 1 ]; then
-    echo "tools/$name: one file at most; see --help" >&2
-    exit 2
-fi
-if [ $# -eq 1 ] && { [ ! -r "$1" ] || [ -d "$1" ]; }; then
-    echo "tools/$name: $1 cannot be read" >&2
-    exit 2
-fi
 
-program=$top/target/bin/$name
+program=$top/target/bin/$crate
 if [ ! -x "$program" ]; then
     echo "tools/$name: proving and building the program first; that takes some minutes, once" >&2
-    "$top/tools/prove" "$name" </dev/null || exit 2
+    "$top/tools/prove" "$crate" </dev/null || exit 2
 fi
 
 run=("$program")
@@ -31,21 +65,8 @@ machine=$(uname -m)
 if [ "$machine" != x86_64 ]; then
     # the program is x86-64 code: elsewhere the kit has an emulator beside its compiler
     tools=$(dirname "$(dirname "$(rt doc)")")/on/$machine/toolchain
-    if [ ! -x "$tools/bin/qemu-x86_64" ]; then
-        echo "tools/$name: the program is x86-64 code, this machine is $machine, and the kit has no emulator for it" >&2
-        exit 2
-    fi
+    [ -x "$tools/bin/qemu-x86_64" ] || wrong "the program is x86-64 code, this machine is $machine, and the kit has no emulator for it"
     run=("$tools/bin/qemu-x86_64" "$tools/lib/ld-linux-x86-64.so.2" --library-path "$tools/lib" "$program")
 fi
 
-case ${1:-} in
-'') "${run[@]}" ;;
-*.txt)
-    # made first, so that nothing is written of a text with a fault
-    made=$(mktemp)
-    trap 'rm -f "$made"' EXIT
-    "$top/tools/mkrun" -o "$made" "$1"
-    "${run[@]}" <"$made"
-    ;;
-*) "${run[@]}" <"$1" ;;
-esac
+if [ ${#files[@]} -eq 1 ]; then "${run[@]}" <"${files[0]}"; else "${run[@]}"; fi
