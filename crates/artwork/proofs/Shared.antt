@@ -7,6 +7,7 @@ use Rattle.laws.specs.Bits.{hasBit}
 use Rattle.registers.specs.Control.{DEN, RSEL, YSCROLL, CSEL, timed}
 use Rattle.registers.specs.Read.{readControl, controlAt, readOf}
 use Rattle.registers.specs.declared.Controls.{Controls}
+use Rattle.side.specs.declared.Side.{Side}
 use Rattle.chip.specs.declared.Chip.{Chip}
 use Rattle.calls.specs.Calls.{registerRead}
 use Rattle.artwork.specs.Runs.{Together, Control1, Control2}
@@ -64,7 +65,7 @@ module _ (a b : Chip) (t : Together a b) where
 
   -- the raster line is on the timing side
   raster-same : hasBit (readControl (a .regs .ctrl1) (a .side .beam .raster)) 7 ≡ hasBit (readControl (b .regs .ctrl1) (b .side .beam .raster)) 7
-  raster-same = simp (t .side) (raster-of (a .regs .ctrl1) (b .side .beam .raster) (b .regs .ctrl1))
+  raster-same = simp (ap (λ (s : Side). s .beam .raster) (t .side)) (raster-of (a .regs .ctrl1) (b .side .beam .raster) (b .regs .ctrl1))
 
   pub control-1-same : (addr penx peny : ℕ) → addr % 64 ≡ 0x11 → Control1 (registerRead a addr penx peny) (registerRead b addr penx peny)
   control-1-same addr penx peny e =
