@@ -134,8 +134,8 @@ impl Chip for Beside<'_> {
     fn tick(&mut self) -> Result<(), Refusal> {
         self.both(|chip| chip.tick())
     }
-    fn write(&mut self, address: u16, value: u8) {
-        self.both(|chip| chip.write(address, value));
+    fn write_file(&mut self, address: u16, value: u8) {
+        self.both(|chip| chip.write_file(address, value));
     }
     fn write_y_expand(&mut self, value: u8) {
         self.both(|chip| chip.write_y_expand(value));

@@ -26,8 +26,8 @@ pub trait Chip {
 
     fn power_up(&mut self, kind: u8);
     fn tick(&mut self) -> Result<(), Refusal>;
-    /// A register by any address.
-    fn write(&mut self, address: u16, value: u8);
+    /// A register by any address, as the chip's own file takes it; Y-expand is not among them.
+    fn write_file(&mut self, address: u16, value: u8);
     fn write_y_expand(&mut self, value: u8);
     fn place_controls(&mut self, ctrl1: u8, ctrl2: u8, compare: u16) -> Result<(), Refusal>;
     fn late_byte(&mut self, value: u8) -> Result<(), Refusal>;
@@ -37,6 +37,15 @@ pub trait Chip {
     fn read(&self, address: u16, light_pen_x: u8, light_pen_y: u8) -> u8;
     fn ba_high_at_phi1(&self) -> bool;
     fn sprites_with_dma(&self) -> u8;
+
+    /// The one door for register writes, Y-expand's too (02 (v)): the original has two.
+    fn write(&mut self, address: u16, value: u8) {
+        if address % 64 == 0x17 {
+            self.write_y_expand(value);
+        } else {
+            self.write_file(address, value);
+        }
+    }
 
     /// How many ticks found DEN late, where that is another's rule than the chip's own.
     fn late(&self) -> u64 {

@@ -501,7 +501,7 @@ impl Chip for Model {
         Ok(())
     }
 
-    fn write(&mut self, address: u16, value: u8) {
+    fn write_file(&mut self, address: u16, value: u8) {
         let (s, place) = (&mut self.s, address % 64);
         match place {
             0x12 => s.compare = (s.compare & 0x100) | u16::from(value),

@@ -33,7 +33,7 @@ use Rattle.chip.specs.declared.Answer.{Answer}
 use Rattle.registers.specs.Control.{timed}
 use Rattle.chip.specs.Accept.{accepted, aecFine, clockFine, placeFine}
 use Rattle.sequencer.specs.Tick.{tickable}
-use Rattle.calls.specs.Calls.{registerWritten, expandAt, controlsPlaced, displayPlaced}
+use Rattle.calls.specs.Calls.{fileWritten, registerWritten, expandAt, controlsPlaced, displayPlaced}
 use Rattle.sequencer.proofs.Sides.{tick-taken, tick-side, tick-bank, tick-unknown, tick-unaccepted}
 use Rattle.artwork.specs.Runs.{Call, tick, write, expand, place-controls, place-display, done}
 use Rattle.artwork.proofs.Instances.{filled, filled-low, filled-high, filled-above}
@@ -93,6 +93,9 @@ pub record Needed (h : Host) : Type 0 where
   -- Y-expand, in cycle 55: the expansion flip turns, or not
   pub yexp-0 : after h (expand 0) (chipAt 54 50) .sprites .flip ≡ 0xFF
   pub yexp-1 : after h (expand 1) (chipAt 54 50) .sprites .flip ≡ 0xFE
+  -- the same through the one door
+  pub door-0 : after h (write 0x17 0) (chipAt 54 50) .sprites .flip ≡ 0xFF
+  pub door-1 : after h (write 0x17 1) (chipAt 54 50) .sprites .flip ≡ 0xFE
   -- DEN, as line 0x30 begins: it is latched, or not
   pub den-1 : after h (place-controls 0x10 0 0) (chipAt 63 0x2F) .beam .latch ≡ true
   pub den-0 : after h (place-controls 0x00 0 0) (chipAt 63 0x2F) .beam .latch ≡ false
@@ -123,7 +126,7 @@ unfolding done
 seen see h x c l e t = ap see (ap (λ (r : Answer). r .chip .side) (tick-taken h (done x c .chip) l e t) ∙ tick-side h (done x c .chip))
 
 pub needed : (h : Host) → lentRefusal h ≡ 0 → Needed h
-unfolding done known kindOf registerWritten expandAt controlsPlaced timed accepted aecFine clockFine tickable placeFine fineTest vmliLimit turned hasBit withBit withoutBit pick latch written asked settled triggered irqWritten happens pointerTime dataTime maskAt badLine latched baOutput nextCycle atLastLine nextLine beamTurned Beams.fresh Borders.right38Passed Sprites.allFresh Sprites.fresh Sprites.spriteAt Sprites.upTo Sprites.dmaBegun Sprites.startOne Sprites.started Sprites.firstPhased Sprites.clearAfter Sprites.flipAfter Sprites.expandWritten Buses.fresh Buses.spriteAsks Buses.requested Buses.arbitrated Frames.fresh Frames.swept Frames.rasterBegun Frames.matchRaises Frames.frameBegun Frames.frameEnded Frames.raised Rows.fresh Phases.beginAt Phases.left40At Phases.left38At Phases.right38At Phases.right40At Phases.rememberAt Phases.endAt Phases.bordered Phases.stepAt Phases.firstAt Phases.secondAt Phases.loadAt Phases.phased Phases.slotMoved
+unfolding done known kindOf fileWritten registerWritten expandAt controlsPlaced timed accepted aecFine clockFine tickable placeFine fineTest vmliLimit turned hasBit withBit withoutBit pick latch written asked settled triggered irqWritten happens pointerTime dataTime maskAt badLine latched baOutput nextCycle atLastLine nextLine beamTurned Beams.fresh Borders.right38Passed Sprites.allFresh Sprites.fresh Sprites.spriteAt Sprites.upTo Sprites.dmaBegun Sprites.startOne Sprites.started Sprites.firstPhased Sprites.clearAfter Sprites.flipAfter Sprites.expandWritten Buses.fresh Buses.spriteAsks Buses.requested Buses.arbitrated Frames.fresh Frames.swept Frames.rasterBegun Frames.matchRaises Frames.frameBegun Frames.frameEnded Frames.raised Rows.fresh Phases.beginAt Phases.left40At Phases.left38At Phases.right38At Phases.right40At Phases.rememberAt Phases.endAt Phases.bordered Phases.stepAt Phases.firstAt Phases.secondAt Phases.loadAt Phases.phased Phases.slotMoved
 needed h l =
     record {
       yscroll-0 = seen (λ (s : Side). s .bus .balow) h (place-controls 0x10 0 0) (chipAt 11 0x30) l refl refl;
@@ -138,6 +141,8 @@ needed h l =
       compare-102 = seen (λ (s : Side). s .irq .flags) h (write 0x12 102) (chipAt 63 100) l refl refl;
       yexp-0 = seen (λ (s : Side). s .sprites .flip) h (expand 0) (chipAt 54 50) l refl refl;
       yexp-1 = seen (λ (s : Side). s .sprites .flip) h (expand 1) (chipAt 54 50) l refl refl;
+      door-0 = seen (λ (s : Side). s .sprites .flip) h (write 0x17 0) (chipAt 54 50) l refl refl;
+      door-1 = seen (λ (s : Side). s .sprites .flip) h (write 0x17 1) (chipAt 54 50) l refl refl;
       den-1 = seen (λ (s : Side). s .beam .latch) h (place-controls 0x10 0 0) (chipAt 63 0x2F) l refl refl;
       den-0 = seen (λ (s : Side). s .beam .latch) h (place-controls 0x00 0 0) (chipAt 63 0x2F) l refl refl;
       rsel-1 = seen (λ (s : Side). s .beam .rsel) h (place-controls 0x18 0 0) (chipAt 11 100) l refl refl;

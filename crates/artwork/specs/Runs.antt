@@ -53,9 +53,9 @@ unfoldable pub run : List Call → Chip → List Answer
 run [] c = []
 run (x ∷ xs) c = done x c ∷ run xs (done x c .chip)
 
--- 01, Timing side and picture side: a write reaches the eight Y, the compare line, enable or the interrupt; the address counts mod 64
+-- 01, Timing side and picture side: a write reaches the eight Y, the compare line, enable or the interrupt; 02 (v): or Y-expand; the address counts mod 64
 abbrev pub timingWrite : ℕ → Bool
-timingWrite reg = (ltb reg 0x10 && eqb (reg % 2) 1) || one-of reg (0x12 ∷ 0x15 ∷ 0x19 ∷ 0x1A ∷ [])
+timingWrite reg = eqb reg 0x17 || ((ltb reg 0x10 && eqb (reg % 2) 1) || one-of reg (0x12 ∷ 0x15 ∷ 0x19 ∷ 0x1A ∷ []))
 
 -- 01, Timing side and picture side: the same call at the same address, with the same timing values
 pub data Alike : Call → Call → Type 0 where

@@ -15,17 +15,17 @@ use Rattle.side.proofs.Kept.{side-same}
 use Rattle.chip.specs.declared.Chip.{Chip}
 use Rattle.chip.specs.declared.Answer.{Answer}
 use Rattle.chip.specs.Accept.{clockFine, accepted, stateRefusal}
-use Rattle.calls.specs.Calls.{registerWritten, expandAt, comparesBy, controlsPlaced, displayPlaced, lateAt, lateTaken}
+use Rattle.calls.specs.Calls.{fileWritten, isExpand, registerWritten, expandAt, comparesBy, controlsPlaced, displayPlaced, lateAt, lateTaken}
 use Rattle.chip.proofs.Accepted.{clock-fine-range}
 use Rattle.chip.proofs.Fine.{accepted-fine, fine-accepted}
 
 module _ (c : Chip) where
   -- the value is a byte
-  pub write-kept : (addr v : ℕ) → v < 256 → accepted c ≡ true → accepted (registerWritten c addr v) ≡ true
-  unfolding registerWritten
-  write-kept addr v b e =
+  file-kept : (addr v : ℕ) → v < 256 → accepted c ≡ true → accepted (fileWritten c addr v) ≡ true
+  unfolding fileWritten
+  file-kept addr v b e =
       let f = accepted-fine c e in
-      fine-accepted (registerWritten c addr v) (record {
+      fine-accepted (fileWritten c addr v) (record {
         side = side-same refl refl refl refl refl refl (f .side .sprites) (f .side .place) (f .side);
         compare = compare-kept (c .regs) addr v b (f .compare);
         forced = f .forced;
@@ -40,6 +40,10 @@ module _ (c : Chip) where
         compare = f .compare;
         forced = f .forced;
       })
+
+  pub write-kept : (addr v : ℕ) → v < 256 → accepted c ≡ true → accepted (registerWritten c addr v) ≡ true
+  unfolding registerWritten
+  write-kept addr v b e = either (λ (d : Chip). accepted d ≡ true) (isExpand addr) (expand-kept v e) (file-kept addr v b e)
 
   pub compares-kept : accepted c ≡ true → accepted (comparesBy c) ≡ true
   unfolding comparesBy

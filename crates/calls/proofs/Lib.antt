@@ -2,3 +2,4 @@ pub mod Parts
 pub mod Kept
 pub mod Sides
 pub mod Numbers
+pub mod Door

@@ -1,7 +1,7 @@
 -- What each call makes of the timing side and the timing registers: no picture value reaches them. Assumes nothing.
 use Prim.Native.Nat.{ℕ, _%_}
 use mathlib.Core.Path.{_≡_, refl, ap, subst, _∙_}
-use mathlib.Core.Bool.{Bool, true, false}
+use mathlib.Core.Bool.{Bool, true, false, _||_, cond}
 use lib.Dec.{ltb}
 use lib.IntN.{ℤ}
 use Rattle.registers.specs.declared.Irq.{Irq}
@@ -22,16 +22,16 @@ use Rattle.schedule.specs.Kind.{kindOf}
 use Rattle.chip.proofs.Fine.{accepted-taken}
 use Rattle.chip.specs.Accept.{accepted, clockFine}
 use Rattle.chip.proofs.Level.{Level, LevelAnswers, picked}
-use Rattle.calls.specs.Calls.{registerRead, registerWritten, expandAt, comparesBy, controlsPlaced, displayPlaced, lateAt, lateTaken, phi1, dmaCount}
+use Rattle.calls.specs.Calls.{registerRead, fileWritten, isExpand, registerWritten, expandAt, comparesBy, controlsPlaced, displayPlaced, lateAt, lateTaken, phi1, dmaCount}
 
 module _ {a b : Chip} (e : Level a b) where
   file : SameFile (a .regs) (b .regs)
   file = by-one (a .regs) (b .regs) (e .registers)
 
-  -- two writes of one address that bring the same where a timing register takes it
-  pub write-level : (addr v w : ℕ) → (takes (addr % 64) ≡ true → v ≡ w) → Level (registerWritten a addr v) (registerWritten b addr w)
-  unfolding registerWritten
-  write-level addr v w same =
+  -- two writes of one address to the file, that bring the same where a timing register takes it
+  file-level : (addr v w : ℕ) → (takes (addr % 64) ≡ true → v ≡ w) → Level (fileWritten a addr v) (fileWritten b addr w)
+  unfolding fileWritten
+  file-level addr v w same =
       record {
         side =
             ap (λ (s : Side). irq≔ (irqWritten (s .irq) addr v) s) (e .side)
@@ -59,6 +59,15 @@ module _ {a b : Chip} (e : Level a b) where
             ∙ ap (λ (y : ℕ). sprites≔ (expandWritten (kindOf (b .side .beam .kind)) v (b .side .beam .cycle) y (b .side .sprites)) (b .side)) (file .yexp);
         registers = simp (file .den, file .rsel, file .yscroll, file .csel, file .compare, file .my, file .enable);
       }
+
+  -- two writes of one address that bring the same where a timing register takes it, Y-expand among them
+  pub write-level : (addr v w : ℕ) → ((isExpand addr || takes (addr % 64)) ≡ true → v ≡ w) → Level (registerWritten a addr v) (registerWritten b addr w)
+  unfolding registerWritten
+  write-level addr v w same = by-door (isExpand addr) refl
+    where
+      by-door : (x : Bool) → isExpand addr ≡ x → Level (cond (isExpand addr) (expandAt a v) (fileWritten a addr v)) (cond (isExpand addr) (expandAt b w) (fileWritten b addr w))
+      by-door true x = rw (x, same (rw x)) (expand-level w)
+      by-door false x = rw x (file-level addr v w (λ t. same (rw x t)))
 
   pub compares-level : Level (comparesBy a) (comparesBy b)
   unfolding comparesBy

@@ -1,5 +1,5 @@
 -- Every other public call on a chip.
-use Prim.Native.Nat.{ℕ}
+use Prim.Native.Nat.{ℕ, _%_}
 use mathlib.Core.Bool.{Bool, cond}
 use lib.Dec.{eqb, ltb}
 use lib.IntN.{ℤ}
@@ -31,8 +31,8 @@ unfoldable pub registerRead : Chip → ℕ → ℕ → ℕ → ℕ
 registerRead c addr penx peny = readOf (c .regs) (c .side .irq) (c .side .beam .raster) addr penx peny
 
 -- Bauer 3.2: the register file and the interrupt latches each take their own
-unfoldable pub registerWritten : Chip → ℕ → ℕ → Chip
-registerWritten c addr v =
+unfoldable pub fileWritten : Chip → ℕ → ℕ → Chip
+fileWritten c addr v =
     regs≔ (written (c .regs) addr v) (side≔ (irq≔ (irqWritten (c .side .irq) addr v) (c .side)) c)
 
 -- DECISIONS 6: at the state's own cycle
@@ -40,6 +40,14 @@ unfoldable pub expandAt : Chip → ℕ → Chip
 expandAt c v =
     regs≔ (expanded (c .regs) v)
     (side≔ (sprites≔ (expandWritten (kindOf (c .side .beam .kind)) v (c .side .beam .cycle) (c .regs .yexp) (c .side .sprites)) (c .side)) c)
+
+-- Bauer 3.2: addresses count mod 64
+abbrev pub isExpand : ℕ → Bool
+isExpand addr = eqb (addr % 64) 0x17
+
+-- 02 (v): one door for every register, at 0x17 the Y-expand write; departs, DIFFERENCES 16
+unfoldable pub registerWritten : Chip → ℕ → ℕ → Chip
+registerWritten c addr v = cond (isExpand addr) (expandAt c v) (fileWritten c addr v)
 
 -- 01, Run file kind 5: by ctrl1's RSEL
 unfoldable pub comparesBy : Chip → Chip

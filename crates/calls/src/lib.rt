@@ -4,7 +4,7 @@ ghost use mathlib.Core.Path.{_≡_};
 ghost use mathlib.Core.Bool.{Bool};
 ghost use Prim.Native.Nat.{_<_};
 ghost use lib.IntN.{ℤ};
-ghost use Rattle.calls.specs.Calls.{registerRead, registerWritten, expandAt, comparesBy, controlsPlaced, displayPlaced, lateAt, lateTaken, phi1, dmaCount};
+ghost use Rattle.calls.specs.Calls.{registerRead, fileWritten, expandAt, registerWritten, comparesBy, controlsPlaced, displayPlaced, lateAt, lateTaken, phi1, dmaCount};
 use chip::Answer;
 use chip::Chip;
 use picture::Pen;
@@ -21,8 +21,9 @@ pub fn read_register(chip: Chip, addr: u16, penx: u8, peny: u8) -> u8
     regs.read(irq, beam.raster, addr, penx, peny)
 }
 
-pub fn write_register(mut chip: Chip, addr: u16, value: u8) -> Chip
-    ensures { λ r. ⌜ r ≡ registerWritten chip addr value ⌝ }
+// What the register file and the interrupt latches take of a write.
+fn write_file(mut chip: Chip, addr: u16, value: u8) -> Chip
+    ensures { λ r. ⌜ r ≡ fileWritten chip addr value ⌝ }
 {
     let regs = chip.regs;
     let mut side = chip.side;
@@ -49,6 +50,16 @@ pub fn write_y_expand(mut chip: Chip, value: u8) -> Chip
     chip.regs = stored;
     chip.side = side;
     chip
+}
+
+// Any register: Y-expand has effects of its own, all others go to the file.
+pub fn write_register(chip: Chip, addr: u16, value: u8) -> Chip
+    ensures { λ r. ⌜ r ≡ registerWritten chip addr value ⌝ }
+{
+    if addr % 64 == 0x17 {
+        return write_y_expand(chip, value);
+    }
+    write_file(chip, addr, value)
 }
 
 // The border compares that ctrl1's RSEL picks.

@@ -187,7 +187,7 @@ impl Chip for Machine {
         }
     }
 
-    fn write(&mut self, address: u16, value: u8) {
+    fn write_file(&mut self, address: u16, value: u8) {
         self.chip.regs.write(address, value, &mut self.chip.irq);
     }
 
