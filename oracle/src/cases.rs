@@ -14,7 +14,8 @@ use std::fs;
 use std::io::{self, Write};
 use std::path::Path;
 
-/// Makes one case after another; ticks go through the cycles of their kind in turn, so that each is met alike.
+/// Makes one case after another; ticks, and writes of the control registers, go through the cycles of their kind in turn, so that each
+/// is met alike.
 pub struct Maker {
     pub random: Rng,
     /// One kind alone; else one case in three is of a 6567R8, and a few are of no kind.
@@ -23,7 +24,8 @@ pub struct Maker {
     /// Runs of a 6569 are the original's alone, without the stand-in of a late DEN.
     original: Walker<Machine>,
     model: Walker<Model>,
-    turns: [u64; 2],
+    /// Of each kind, for ticks and for writes of each control register.
+    turns: [[u64; 3]; 2],
     change: u64,
 }
 
@@ -33,7 +35,7 @@ impl Maker {
         let memory = memory(&mut random);
         let original = Walker::new(Machine::new(memory.clone()), MOS6569);
         let model = Walker::new(Model::new(memory.clone(), MOS6567R8), MOS6567R8);
-        Self { random, only, memory, original, model, turns: [0; 2], change: 0 }
+        Self { random, only, memory, original, model, turns: [[0; 3]; 2], change: 0 }
     }
 
     pub fn memory(&self) -> &Memory {
@@ -45,9 +47,9 @@ impl Maker {
         self.only.unwrap_or_else(|| if self.random.chance(1, 3) { MOS6567R8 } else { MOS6569 })
     }
 
-    /// The state's cycle of the next tick.
-    fn next_cycle(&mut self, kind: u8) -> u16 {
-        let turn = &mut self.turns[usize::from(kind)];
+    /// The state's cycle of the next call of this sort.
+    fn next_cycle(&mut self, kind: u8, sort: usize) -> u16 {
+        let turn = &mut self.turns[usize::from(kind)][sort];
         *turn += 1;
         1 + ((*turn - 1) % u64::from(column(kind).last_cycle)) as u16
     }
@@ -132,7 +134,9 @@ impl Maker {
         self.random.fill(&mut arguments);
         let mut bank = self.random.below(4) as u8;
         let cycle = match call {
-            TICK => self.next_cycle(kind),
+            TICK => self.next_cycle(kind, 0),
+            WRITE_CONTROL_1 => self.next_cycle(kind, 1),
+            WRITE_CONTROL_2 => self.next_cycle(kind, 2),
             // The cycles with rules of their own, of both kinds, and their neighbours.
             WRITE_Y_EXPAND if self.random.flag() => self.random.pick(&[14, 15, 15, 16, 54, 55, 55, 56, 56, 57]),
             BA_HIGH_AT_PHI1 if self.random.chance(1, 3) => self.random.pick(&[54, 55, 56, 57, 58]),
@@ -159,6 +163,8 @@ impl Maker {
                 arguments[0] = r.pick(&[0x11, 0x12, 0x16, 0x17, 0x18, 0x19, 0x1A, 0x1E, 0x1F, 0x2E, 0x2F]) | (arguments[0] & 0xC0)
             }
             WRITE | READ if r.flag() => arguments[0] &= 0x3F,
+            WRITE_CONTROL_1 if r.chance(7, 8) => arguments[0] = bend_to_compare(r, &mut state),
+            WRITE_CONTROL_2 => arguments[0] = control_2(r, state.ctrl2),
             PLACE_CONTROLS if r.chance(3, 4) => arguments[3] &= 1,
             PLACE_CONTROLS if r.flag() => arguments[3] = 2,
             _ => {}
@@ -211,10 +217,9 @@ enum End {
     Cut,
 }
 
-/// Every end, so that each comes in its turn. The calls between those that there are stand by themselves.
+/// Every end, so that each comes in its turn.
 fn all_ends() -> Vec<End> {
-    let mut all: Vec<End> = (10..=11).map(|call| End::Past(0, call, call)).collect();
-    all.push(End::Past(0, POWER_UP + 1, 255));
+    let mut all = vec![End::Past(0, POWER_UP + 1, 255)];
     all.extend(fields().into_iter().filter_map(|field| match field.sort {
         Sort::Number | Sort::Signed => None,
         Sort::Flag => Some(End::Past(6 + field.offset, 2, 255)),

@@ -140,6 +140,12 @@ impl Chip for Beside<'_> {
     fn write_y_expand(&mut self, value: u8) {
         self.both(|chip| chip.write_y_expand(value));
     }
+    fn write_control_1(&mut self, value: u8) {
+        self.both(|chip| chip.write_control_1(value));
+    }
+    fn write_control_2(&mut self, value: u8) {
+        self.both(|chip| chip.write_control_2(value));
+    }
     fn place_controls(&mut self, ctrl1: u8, ctrl2: u8, compare: u16) -> Result<(), Refusal> {
         self.both(|chip| chip.place_controls(ctrl1, ctrl2, compare))
     }

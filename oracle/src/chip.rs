@@ -29,6 +29,9 @@ pub trait Chip {
     /// A register by any address, as the chip's own file takes it; Y-expand is not among them.
     fn write_file(&mut self, address: u16, value: u8);
     fn write_y_expand(&mut self, value: u8);
+    /// $D011 and $D016 with what they do at once (02 (vi)). The original's text has neither: the rule is ours on every chip.
+    fn write_control_1(&mut self, value: u8);
+    fn write_control_2(&mut self, value: u8);
     fn place_controls(&mut self, ctrl1: u8, ctrl2: u8, compare: u16) -> Result<(), Refusal>;
     fn late_byte(&mut self, value: u8) -> Result<(), Refusal>;
     fn border_compares(&mut self);

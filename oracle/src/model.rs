@@ -16,6 +16,9 @@ use crate::scene::State;
 const DEN: u8 = 0x10;
 const RSEL: u8 = 0x08;
 const CSEL: u8 = 0x08;
+/// The mode's bits in each control register: ECM and BMM, MCM.
+const MODE_1: u8 = 0x60;
+const MODE_2: u8 = 0x10;
 /// The raster interrupt's flag.
 const RASTER: u8 = 1;
 /// The bits of a mode.
@@ -250,14 +253,19 @@ fn line_begins(s: &mut State, column: Column) {
         s.raster_match = false;
     } else {
         s.raster += 1;
-        let equal = s.raster == s.compare;
-        if equal && !s.raster_match {
-            raise(s);
-        }
-        s.raster_match = equal;
+        compare_line(s);
     }
     // Departure 6.
     vertical_border(s);
+}
+
+/// A match is the line's own, and raises as it begins.
+fn compare_line(s: &mut State) {
+    let matched = s.raster == s.compare;
+    if matched && !s.raster_match {
+        raise(s);
+    }
+    s.raster_match = matched;
 }
 
 /// Departure 8: line 0 comes in cycle 2.
@@ -534,6 +542,22 @@ impl Chip for Model {
         }
         s.flip |= !value;
         s.y_expand = value;
+    }
+
+    /// 02 (vi): the line is compared at once, and on the last line too.
+    fn write_control_1(&mut self, value: u8) {
+        let s = &mut self.s;
+        s.mode_changing |= (s.ctrl1 ^ value) & MODE_1 != 0;
+        s.ctrl1 = value;
+        s.compare = u16::from(value >> 7) * 256 + s.compare % 256;
+        (s.top, s.bottom) = compares(value);
+        compare_line(s);
+    }
+
+    fn write_control_2(&mut self, value: u8) {
+        let s = &mut self.s;
+        s.mode_changing |= (s.ctrl2 ^ value) & MODE_2 != 0;
+        s.ctrl2 = value;
     }
 
     fn place_controls(&mut self, ctrl1: u8, ctrl2: u8, compare: u16) -> Result<(), Refusal> {

@@ -108,6 +108,8 @@ fn step(file: &mut Cursor, chip: &mut impl Chip) -> Result<bool, Refusal> {
             chip.place_display_now([state, transition, access, mode].map(|field| field == 1))?;
         }
         [7, bank @ 0..=3, 0, 0, 0] => chip.see(bank),
+        [8, value, 0, 0, 0] => chip.write_control_1(value),
+        [9, value, 0, 0, 0] => chip.write_control_2(value),
         _ => return Err(NOT_ALLOWED),
     }
     Ok(false)

@@ -21,13 +21,27 @@ pub const PLACE_DISPLAY: u8 = 6;
 pub const READ: u8 = 7;
 pub const BA_HIGH_AT_PHI1: u8 = 8;
 pub const SPRITES_WITH_DMA: u8 = 9;
+pub const WRITE_CONTROL_1: u8 = 10;
+pub const WRITE_CONTROL_2: u8 = 11;
 pub const POWER_UP: u8 = 12;
 
 /// Every call but the tick.
-pub const OTHERS: [u8; 10] =
-    [WRITE, WRITE_Y_EXPAND, PLACE_CONTROLS, LATE_BYTE, BORDER_COMPARES, PLACE_DISPLAY, READ, BA_HIGH_AT_PHI1, SPRITES_WITH_DMA, POWER_UP];
+pub const OTHERS: [u8; 12] = [
+    WRITE,
+    WRITE_Y_EXPAND,
+    PLACE_CONTROLS,
+    LATE_BYTE,
+    BORDER_COMPARES,
+    PLACE_DISPLAY,
+    READ,
+    BA_HIGH_AT_PHI1,
+    SPRITES_WITH_DMA,
+    WRITE_CONTROL_1,
+    WRITE_CONTROL_2,
+    POWER_UP,
+];
 
-/// The calls by number, for messages. There is no call yet where the name is empty.
+/// The calls by number, for messages.
 const CALLS: [&str; 13] = [
     "tick",
     "register write",
@@ -39,14 +53,14 @@ const CALLS: [&str; 13] = [
     "register read",
     "ba_high_at_phi1",
     "sprites with DMA",
-    "",
-    "",
+    "control 1 write",
+    "control 2 write",
     "power-up",
 ];
 
 /// Nothing where there is no such call.
 pub fn called(call: u8) -> Option<&'static str> {
-    CALLS.get(usize::from(call)).copied().filter(|name| !name.is_empty())
+    CALLS.get(usize::from(call)).copied()
 }
 
 #[derive(Clone, Debug)]
@@ -112,6 +126,14 @@ pub fn perform(chip: &mut dyn Chip, case: &Case) -> Result<u16, Refusal> {
         PLACE_DISPLAY => chip.place_display_now(case.arguments.map(|byte| byte % 2 == 1)).map(|()| 0),
         READ => Ok(chip.read(a.into(), b, c).into()),
         BA_HIGH_AT_PHI1 => Ok(chip.ba_high_at_phi1().into()),
+        WRITE_CONTROL_1 => {
+            chip.write_control_1(a);
+            Ok(0)
+        }
+        WRITE_CONTROL_2 => {
+            chip.write_control_2(a);
+            Ok(0)
+        }
         SPRITES_WITH_DMA => Ok(chip.sprites_with_dma().into()),
         call => unreachable!("call {call} is no case"),
     }

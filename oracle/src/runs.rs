@@ -56,6 +56,20 @@ impl Run {
         self.steps.push([3, ctrl1, ctrl2, low, high]);
     }
 
+    fn control_1(&mut self, value: u8) {
+        self.steps.push([8, value, 0, 0, 0]);
+    }
+
+    fn control_2(&mut self, value: u8) {
+        self.steps.push([9, value, 0, 0, 0]);
+    }
+
+    /// $D012 and $D011, as a program sets a compare line; `ctrl1` has the other bits of $D011.
+    fn compare_line(&mut self, ctrl1: u8, compare: u16) {
+        self.write(0x12, compare as u8);
+        self.control_1(with_line(ctrl1, compare));
+    }
+
     fn late_byte(&mut self, value: u8) {
         self.steps.push([4, value, 0, 0, 0]);
     }
@@ -92,6 +106,11 @@ impl Run {
     }
 }
 
+/// A value of $D011 with bit 8 of the compare line.
+fn with_line(ctrl1: u8, compare: u16) -> u8 {
+    (ctrl1 & 0x7F) | (compare >> 1 & 0x80) as u8
+}
+
 /// Run files of a folder by their numbers.
 pub type Files = fn(u64, u64, Column) -> Vec<u8>;
 
@@ -106,7 +125,10 @@ pub fn plain(seed: u64, number: u64, column: Column) -> Vec<u8> {
     match number % 16 {
         0 => {
             let frames = r.within(1, 2) as usize;
-            game(r, column, frames * column.frame() as usize).encode()
+            let ticks = frames * column.frame() as usize;
+            // Two of three write their registers, the third has them placed.
+            let make = if number / 16 % 3 == 2 { placed_game } else { game };
+            make(r, column, ticks).encode()
         }
         1..=6 => random(r, column).encode(),
         7..=12 => damaged(r, column, number / 16 * 6 + number % 16 - 7),
@@ -161,18 +183,16 @@ fn random(r: &mut Rng, column: Column) -> Run {
 
 fn random_call(r: &mut Rng, run: &mut Run, ticks: usize) {
     let (_, line) = run.beam(ticks);
-    match r.below(12) {
-        0..=2 => {
-            let mut ctrl1 = r.byte();
-            if r.chance(4, 5) {
-                ctrl1 |= 0x10;
-            }
-            if r.flag() {
-                ctrl1 = (ctrl1 & 0xF8) | (line as u8 & 7);
-            }
-            let compare = if r.flag() { r.below(512) as u16 } else { (line as u16 + r.below(3) as u16) % run.lines() as u16 };
-            run.controls(ctrl1, r.byte(), compare);
-        }
+    let mut ctrl1 = r.byte();
+    if r.chance(4, 5) {
+        ctrl1 |= 0x10;
+    }
+    if r.flag() {
+        ctrl1 = (ctrl1 & 0xF8) | (line as u8 & 7);
+    }
+    let compare = if r.flag() { r.below(512) as u16 } else { (line as u16 + r.below(3) as u16) % run.lines() as u16 };
+    match r.below(16) {
+        0..=2 => run.controls(ctrl1, r.byte(), compare),
         3 => run.write(r.byte(), r.byte()),
         4 => run.write(2 * r.below(8) as u8 + 1, (line as u8).wrapping_add(r.below(3) as u8)),
         5 => run.write(0x15, r.mask()),
@@ -180,12 +200,20 @@ fn random_call(r: &mut Rng, run: &mut Run, ticks: usize) {
         7 => run.border_compares(),
         8 | 9 => run.display([r.flag(), r.flag(), r.flag(), r.flag()]),
         10 => run.late_byte(r.byte()),
+        11 | 12 if r.flag() => run.compare_line(ctrl1, compare),
+        11 | 12 => run.control_1(ctrl1),
+        // Off the line and on it again.
+        13 => {
+            run.control_1(with_line(ctrl1, !(line as u16)));
+            run.compare_line(ctrl1, line as u16);
+        }
+        14 => run.control_2(r.byte()),
         _ => run.bank(r.below(4) as u8),
     }
 }
 
-/// Ticks as a game has them: a screen, sprites used twice a frame, splits, a crunch, an open border.
-fn game(r: &mut Rng, column: Column, ticks: usize) -> Run {
+/// What a game's frame has in memory, in its registers, and where its sprites are first.
+fn set_up(r: &mut Rng, column: Column) -> (Run, [u8; 8]) {
     let mut run = Run::new(column);
     // Screen at 0x0400 with its sprite pointers, two pages of shapes, a character set, colours.
     run.ram.extend((0..1000).map(|k| (0x0400 + k, r.byte())));
@@ -195,19 +223,7 @@ fn game(r: &mut Rng, column: Column, ticks: usize) -> Run {
     run.rom.extend((0..1024).map(|k| (k, r.byte())));
     run.colour.extend((0..1000).map(|k| (k, r.byte() & 0x0F)));
 
-    let yscroll = r.below(8) as u8;
-    let mut ctrl1 = 0x18 | yscroll;
-    let ctrl2 = 0xC8 | r.below(8) as u8;
-    let first_split = r.within(0x40, 0x70) as usize;
-    let second_split = r.within(0x80, 0xE0) as usize;
-    let crunch = r.within(0x40, 0xC0) as usize;
-    let forced = r.within(0x38, 0xF0) as usize;
-    let forced_cycle = r.within(16, 50) as usize;
-    let open_border = r.flag();
-    let mut y: [u8; 8] = std::array::from_fn(|_| r.within(0x32, 0x60) as u8);
-
-    run.controls(ctrl1, ctrl2, first_split as u16);
-    run.border_compares();
+    let y: [u8; 8] = std::array::from_fn(|_| r.within(0x32, 0x60) as u8);
     run.write(0x18, 0x14);
     run.write(0x1A, 0x01);
     run.write(0x15, r.mask());
@@ -217,6 +233,99 @@ fn game(r: &mut Rng, column: Column, ticks: usize) -> Run {
         run.write(2 * k as u8 + 1, *y);
         run.write(0x27 + k as u8, r.byte());
     }
+    (run, y)
+}
+
+/// The sprites once more, further down.
+fn again(run: &mut Run, y: &mut [u8; 8]) {
+    for (k, y) in y.iter_mut().enumerate() {
+        *y = y.wrapping_add(0x60);
+        run.write(2 * k as u8 + 1, *y);
+    }
+}
+
+/// Ticks as a game has them, all by register writes: a screen, sprites used twice a frame, splits above and below line 0x100, lines of
+/// FLI, a crunch, open borders.
+fn game(r: &mut Rng, column: Column, ticks: usize) -> Run {
+    let (mut run, mut y) = set_up(r, column);
+    let mut ctrl1 = 0x18 | r.below(8) as u8;
+    let ctrl2 = 0xC8 | r.below(8) as u8;
+    let splits = [r.within(0x40, 0x70), r.within(0x80, 0xE0), r.within(0x100, 0x105)].map(|line| line as u16);
+    let fli = r.within(0x38, 0xE0) as usize;
+    let fli_cycle = r.within(10, 16) as usize;
+    let crunch = r.within(0x40, 0xC0) as usize;
+    let forced = r.within(0x38, 0xF0) as usize;
+    let forced_cycle = r.within(16, 50) as usize;
+    let (open_rows, open_sides) = (r.flag(), r.flag());
+    // The split that is waited for.
+    let mut next = 0;
+
+    run.compare_line(ctrl1, splits[next]);
+    run.control_2(ctrl2);
+    for ticks in 1..=ticks {
+        run.tick();
+        let (cycle, line) = run.beam(ticks);
+        // The board's byte in the cycles in which the CPU may still have the bus.
+        if (15..=18).contains(&cycle) && (0x30..=0xF7).contains(&line) {
+            run.late_byte(r.byte());
+        }
+        // A handler acts some cycles after its interrupt; the first two change the mode.
+        if cycle == 12 && line == splits[next].into() {
+            run.write(0x19, 0x0F);
+            run.write(0x21, r.byte());
+            if next == 2 {
+                next = 0;
+            } else {
+                run.write(0x18, if next == 0 { r.byte() } else { 0x14 });
+                ctrl1 ^= 0x20;
+                run.control_2(if next == 0 { ctrl2 ^ 0x10 } else { ctrl2 });
+                next += 1;
+            }
+            run.compare_line(ctrl1, splits[next]);
+            if next == 2 {
+                again(&mut run, &mut y);
+            }
+        }
+        if line == crunch && (cycle == 14 || cycle == 15) {
+            run.write_y_expand(if cycle == 14 { 0xFF } else { r.mask() });
+        }
+        // Every line of a row is a bad one.
+        if (fli..fli + 8).contains(&line) && cycle == fli_cycle {
+            run.control_1(with_line((ctrl1 & 0xF8) | (line as u8 & 7), splits[next]));
+        }
+        if line == fli + 8 && cycle == fli_cycle {
+            run.control_1(with_line(ctrl1, splits[next]));
+        }
+        // A bad line forced in the middle of a line.
+        if line == forced && (cycle == forced_cycle || cycle == 60) {
+            let scroll = if cycle == 60 { ctrl1 } else { line as u8 };
+            run.control_1(with_line((ctrl1 & 0xF8) | (scroll & 7), splits[next]));
+        }
+        if open_rows && (line == 0xF9 || line == 0xFD) && cycle == 30 {
+            run.control_1(with_line(if line == 0xF9 { ctrl1 & 0xF7 } else { ctrl1 }, splits[next]));
+        }
+        if open_sides && (0x90..0xA0).contains(&line) && (cycle == 55 || cycle == 57) {
+            run.control_2(if cycle == 55 { ctrl2 & 0xF7 } else { ctrl2 });
+        }
+    }
+    run
+}
+
+/// The same by the placing calls: splits, a forced bad line, an open border.
+fn placed_game(r: &mut Rng, column: Column, ticks: usize) -> Run {
+    let (mut run, mut y) = set_up(r, column);
+    let yscroll = r.below(8) as u8;
+    let mut ctrl1 = 0x18 | yscroll;
+    let ctrl2 = 0xC8 | r.below(8) as u8;
+    let first_split = r.within(0x40, 0x70) as usize;
+    let second_split = r.within(0x80, 0xE0) as usize;
+    let crunch = r.within(0x40, 0xC0) as usize;
+    let forced = r.within(0x38, 0xF0) as usize;
+    let forced_cycle = r.within(16, 50) as usize;
+    let open_border = r.flag();
+
+    run.controls(ctrl1, ctrl2, first_split as u16);
+    run.border_compares();
 
     for ticks in 1..=ticks {
         run.tick();
@@ -239,11 +348,7 @@ fn game(r: &mut Rng, column: Column, ticks: usize) -> Run {
             run.write(0x18, 0x14);
             ctrl1 ^= 0x20;
             run.controls(ctrl1, ctrl2, first_split as u16);
-            // The sprites once more, further down.
-            for (k, y) in y.iter_mut().enumerate() {
-                *y = y.wrapping_add(0x60);
-                run.write(2 * k as u8 + 1, *y);
-            }
+            again(&mut run, &mut y);
         }
         if line == crunch && (cycle == 14 || cycle == 15) {
             run.write_y_expand(if cycle == 14 { 0xFF } else { r.mask() });
@@ -274,6 +379,8 @@ fn late_den(r: &mut Rng, column: Column) -> Run {
     let (long, frame) = (run.line(), column.frame() as usize);
     let frames = if r.chance(1, 8) { 2 } else { 1 };
     let ctrl2 = r.byte();
+    // DEN is written, or placed.
+    let written = r.flag();
     // Mostly a bad line on 0x30 itself, else one of the seven after it.
     let row = if r.chance(2, 3) { 0 } else { r.below(8) as u8 };
     run.controls(if r.chance(1, 5) { 0x18 } else { 0x08 } | row, ctrl2, r.pick(&[0, 0x30, 0x31, 0x100]));
@@ -291,7 +398,11 @@ fn late_den(r: &mut Rng, column: Column) -> Run {
         if ticks == next {
             let den = if r.chance(2, 3) { 0x10 } else { 0 };
             let scroll = if r.chance(3, 4) { row } else { r.below(8) as u8 };
-            run.controls(den | 0x08 | scroll, ctrl2, 0x30);
+            if written {
+                run.control_1(den | 0x08 | scroll);
+            } else {
+                run.controls(den | 0x08 | scroll, ctrl2, 0x30);
+            }
             next += r.pick(&[1, 2, 5, 11, 30, 64]) as usize;
             // From line 0x32 on the next frame's line.
             if next > long * 0x32 && next < frame {
@@ -337,10 +448,10 @@ fn faults() -> Vec<Fault> {
         all.extend([Some(0), None].map(|past| Fault::Address(section, past)));
     }
     all.push(Fault::AddressCut);
-    let steps = [[8, 0, 0, 0, 0], [255, 0, 0, 0, 0], [7, 4, 0, 0, 0], [3, 0x1B, 8, 0, 2], [3, 0x1B, 8, 255, 255]];
+    let steps = [[10, 0, 0, 0, 0], [255, 0, 0, 0, 0], [7, 4, 0, 0, 0], [3, 0x1B, 8, 0, 2], [3, 0x1B, 8, 255, 255]];
     let displays = [[6, 2, 1, 0, 1], [6, 0, 2, 0, 1], [6, 0, 1, 2, 1], [6, 0, 1, 0, 2], [6, 255, 1, 0, 1]];
     all.extend(steps.into_iter().chain(displays).map(Fault::Step));
-    for (kind, used) in [(0, 0), (1, 2), (2, 1), (4, 1), (5, 0), (7, 1)] {
+    for (kind, used) in [(0, 0), (1, 2), (2, 1), (4, 1), (5, 0), (7, 1), (8, 1), (9, 1)] {
         all.extend((used + 1..=4).map(|place| Fault::Unused(kind, place)));
     }
     all.extend([Fault::FirstCountMissing, Fault::FrontMissing, Fault::StepsMissing]);

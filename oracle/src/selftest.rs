@@ -32,6 +32,7 @@ const CHECKS: &[Check] = &[
     ("the mask follows the slots", the_mask),
     ("what the original does where the port leaves it", the_originals_own),
     ("a late DEN, and the stand-in of it", the_late_den),
+    ("the writes of $D011 and $D016", the_control_writes),
     ("the 6567R8: its line, its frame and its slots", the_column),
     ("the 6567R8: power-up, and what is refused", the_kinds),
     ("the 6567R8: what goes with sprite 0's slot", the_first_slot),
@@ -221,10 +222,26 @@ fn faults() -> bool {
         [6, 0, 0, 0, 2],
         [7, 4, 0, 0, 0],
         [7, 0, 1, 0, 0],
-        [8, 0, 0, 0, 0],
+        [8, 0, 1, 0, 0],
+        [8, 0, 0, 1, 0],
+        [8, 0, 0, 0, 1],
+        [9, 0, 1, 0, 0],
+        [9, 0, 0, 1, 0],
+        [9, 0, 0, 0, 1],
+        [10, 0, 0, 0, 0],
+        [255, 0, 0, 0, 0],
     ];
-    let taken: &[[u8; 5]] =
-        &[[1, 255, 255, 0, 0], [2, 255, 0, 0, 0], [3, 255, 255, 255, 1], [4, 255, 0, 0, 0], [5, 0, 0, 0, 0], [6, 1, 1, 1, 1], [7, 3, 0, 0, 0]];
+    let taken: &[[u8; 5]] = &[
+        [1, 255, 255, 0, 0],
+        [2, 255, 0, 0, 0],
+        [3, 255, 255, 255, 1],
+        [4, 255, 0, 0, 0],
+        [5, 0, 0, 0, 0],
+        [6, 1, 1, 1, 1],
+        [7, 3, 0, 0, 0],
+        [8, 255, 0, 0, 0],
+        [9, 255, 0, 0, 0],
+    ];
     before.iter().all(|(bytes, text)| charted(bytes) == *text)
         && refused.iter().all(|record| last(steps(&[[5, 0, 0, 0, 0], *record])) == "refused 8 1")
         && taken.iter().all(|record| steps(&[*record]) == "steps 1\n")
@@ -383,6 +400,114 @@ fn the_late_den() -> bool {
         judge.den_latch == (latch && !wraps) && original.den_latch == (old && !wraps) && (judge == original || is_late(&state))
     });
     sound && beside.late() == late && alone.late() == late && 0 < apart && apart <= late
+}
+
+/// 02 (vi), worked out by hand, on the original with our calls, and on the model as each kind.
+fn the_control_writes() -> bool {
+    control_writes(&mut Machine::new(Memory::new()), MOS6569)
+        && control_writes(&mut Model::new(Memory::new(), MOS6569), MOS6569)
+        && control_writes(&mut Model::new(Memory::new(), MOS6567R8), MOS6567R8)
+        && control_writes(&mut Model::new(Memory::new(), UNKNOWN[0]), UNKNOWN[0])
+        && line_0(&mut Machine::new(Memory::new()), 0x37)
+        && line_0(&mut Model::new(Memory::new(), MOS6569), 0x37)
+        && line_0(&mut Model::new(Memory::new(), MOS6567R8), 0x06)
+}
+
+/// Between two ticks, on line 100. The compare line is 356 first, 100 but for its bit 8.
+fn control_writes(chip: &mut dyn Chip, kind: u8) -> bool {
+    let start = State { cycle: 20, raster: 100, compare: 356, irq_enable: 1, ..powered(kind) };
+    chip.load(&start);
+    chip.write_control_1(0x1B);
+    let raised = State { ctrl1: 0x1B, compare: 100, raster_match: true, irq_flags: 0x81, irq_line: true, top: 0x33, bottom: 0xFB, ..start.clone() };
+    let raises = chip.state() == raised;
+    // Equal and matched: acknowledged, it stays so.
+    chip.write(0x19, 1);
+    let quiet = State { irq_flags: 0, irq_line: false, ..raised.clone() };
+    chip.write_control_1(0x1B);
+    let stays = chip.state() == quiet;
+    chip.write_control_1(0x9B);
+    let clears = chip.state() == State { ctrl1: 0x9B, compare: 356, raster_match: false, ..quiet.clone() };
+    chip.write_control_1(0x1B);
+    let twice = chip.state() == raised;
+    // Without its mask a source is latched all the same.
+    chip.load(&State { irq_enable: 0x0E, ..start.clone() });
+    chip.write_control_1(0x10);
+    let masked = (chip.state().irq_flags, chip.state().irq_line, chip.state().raster_match) == (1, false, true);
+
+    // Nothing above bit 8 stays, and a line that no compare line has is never met.
+    chip.load(&State { raster: 0x164, compare: 0xFE64, ..start.clone() });
+    chip.write_control_1(0x80);
+    let ninth = (chip.state().compare, chip.state().raster_match) == (0x164, true);
+    chip.load(&State { raster: 0xFE64, compare: 0xFE64, raster_match: true, ..start.clone() });
+    chip.write_control_1(0);
+    let above = (chip.state().compare, chip.state().raster_match, chip.state().irq_flags) == (0x064, false, 0);
+
+    // The mode's bits, by each from ctrl1 0x1F and ctrl2 0xC8: changed, changed back; and the other bits, which are none.
+    let calm = State { raster: 7, ctrl1: 0x1F, ctrl2: 0xC8, top: 0x33, bottom: 0xFB, compare: 100, ..start.clone() };
+    let mut changing = |values: &[u8], second: bool, flag: bool| {
+        chip.load(&State { mode_changing: flag, ..calm.clone() });
+        for value in values {
+            if second {
+                chip.write_control_2(*value);
+            } else {
+                chip.write_control_1(*value);
+            }
+        }
+        chip.state()
+    };
+    let flags = [0x5F, 0x3F, 0x0F, 0x17, 0x1E, 0x9F, 0x1F].map(|value| changing(&[value], false, false).mode_changing);
+    let modes = flags == [true, true, false, false, false, false, false]
+        && changing(&[0x3F, 0x1F], false, false) == State { mode_changing: true, ..calm.clone() }
+        && changing(&[0x1F], false, true) == State { mode_changing: true, ..calm.clone() }
+        && changing(&[0xD8], true, false) == State { ctrl2: 0xD8, mode_changing: true, ..calm.clone() }
+        && changing(&[0xD8, 0xC8], true, false) == State { mode_changing: true, ..calm.clone() }
+        && changing(&[0x27], true, false) == State { ctrl2: 0x27, ..calm.clone() }
+        && changing(&[0xC0], true, true) == State { ctrl2: 0xC0, mode_changing: true, ..calm.clone() }
+        && changing(&[0x97], false, false) == State { ctrl1: 0x97, compare: 356, top: 0x37, bottom: 0xF7, ..calm.clone() };
+
+    // The ordinary write has none of it.
+    chip.load(&start);
+    for address in [0x11, 0x16, 0x51, 0xD6] {
+        chip.write(address, 0xFF);
+    }
+    let ordinary = chip.state() == start;
+
+    // A bad line waits for the tick.
+    chip.load(&State { raster: 0x33, den_latch: true, ctrl1: 0x10, ..start.clone() });
+    chip.write_control_1(0x13);
+    let before = (chip.state().bad_line, chip.state().rising_edge, chip.state().displaying, chip.state().yscroll);
+    let ticked = chip.tick().is_ok();
+    let after = (chip.state().bad_line, chip.state().rising_edge, chip.state().displaying, chip.state().yscroll);
+    // No tick takes an unknown kind.
+    let waits = before == (false, false, false, 0) && if ticked { after == (true, true, true, 3) } else { after == before && kind > MOS6567R8 };
+    raises && stays && clears && twice && masked && ninth && above && modes && ordinary && waits
+}
+
+/// Around a frame's end. The last line is compared while it is there, also where cycle 1 has ended the frame; `low` is its low byte.
+fn line_0(chip: &mut dyn Chip, low: u8) -> bool {
+    fn told(chip: &mut dyn Chip) -> (u16, bool, u8) {
+        (chip.state().raster, chip.state().raster_match, chip.state().irq_flags)
+    }
+    let last = chip.state().raster;
+    chip.write(0x12, low);
+    let placed = told(chip) == (last, false, 0);
+    chip.tick().expect("the tick is taken");
+    let ends = chip.state().cycle == 1 && chip.state().frame_flag && told(chip) == (last, false, 0);
+    chip.write_control_1(0x80);
+    let met = told(chip) == (last, true, 1);
+    chip.write(0x19, 1);
+    chip.write(0x12, 0);
+    chip.write_control_1(0);
+    let left = told(chip) == (last, false, 0);
+    // Cycle 2 raises and leaves no match: a write on line 0 raises once more, and then there is one.
+    chip.tick().expect("the tick is taken");
+    let begins = told(chip) == (0, false, 1);
+    chip.write(0x19, 1);
+    chip.write_control_1(0);
+    let again = told(chip) == (0, true, 1);
+    chip.write(0x19, 1);
+    chip.write_control_1(0);
+    placed && ends && met && left && begins && again && told(chip) == (0, true, 0)
 }
 
 /// In the middle of a line that is displayed, row 0, far from any forced bad line.

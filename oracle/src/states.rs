@@ -156,6 +156,54 @@ pub fn bend_to_idle(r: &mut Rng, s: &mut State) {
     s.forced_clock = s.clock + r.pick(&[0, 1, 2, 2, 2, 3, 4]);
 }
 
+/// A value for $D011 while the register holds another: a bit of it changed, its mode kept, or any; DEN mostly set, YSCROLL often that
+/// of the line. Bit 7 is the compared line's bit 8.
+pub fn control_1(r: &mut Rng, held: u8, raster: u16, compared: u16) -> u8 {
+    let value = match r.below(5) {
+        0 => held,
+        1 => held ^ 1 << r.below(7),
+        2 => (r.byte() & 0x9F) | (held & 0x60),
+        _ => ctrl1(r, raster),
+    };
+    (value & 0x7F) | (compared >> 1 & 0x80) as u8
+}
+
+/// The same for $D016.
+pub fn control_2(r: &mut Rng, held: u8) -> u8 {
+    match r.below(5) {
+        0 => held,
+        1 => held ^ 1 << r.below(8),
+        2 => (r.byte() & 0xEF) | (held & 0x10),
+        3 => held ^ 0x10,
+        _ => r.byte(),
+    }
+}
+
+/// Bends a state so that a write of $D011 compares a line near the raster: the same, a neighbour, one apart in bit 8 alone. Answers
+/// the value to be written.
+pub fn bend_to_compare(r: &mut Rng, s: &mut State) -> u8 {
+    let last = column(s.kind).last_line;
+    match s.cycle {
+        // A frame's end, which cycle 1 has begun and not done; and what is left of it.
+        1 if r.flag() => (s.raster, s.frame_flag) = (last, true),
+        2 if r.flag() => (s.raster, s.frame_flag, s.raster_match) = (0, false, r.chance(1, 4)),
+        _ if r.chance(1, 8) => s.raster = 0,
+        _ if r.chance(1, 8) => s.raster = last,
+        // Of the wild lines most can be met.
+        _ if r.chance(3, 4) => s.raster %= 512,
+        _ => {}
+    }
+    let line = match r.below(8) {
+        0..=2 => s.raster,
+        3 => s.raster.wrapping_add(1),
+        4 => s.raster.wrapping_sub(1),
+        5 | 6 => s.raster ^ 0x100,
+        _ => r.word(),
+    };
+    s.compare = (s.compare & 0xFE00) | u16::from(r.flag()) << 8 | (line & 0xFF);
+    control_1(r, s.ctrl1, s.raster, line)
+}
+
 /// Puts one field at the edge of what the state's kind accepts, or just past it.
 pub fn bend_to_edge(r: &mut Rng, s: &mut State, past: bool) {
     fn choose<T: Copy>(r: &mut Rng, past: bool, inside: &[T], outside: &[T]) -> T {

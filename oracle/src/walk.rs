@@ -4,6 +4,7 @@ use crate::chip::Chip;
 use crate::kind::{column, Column};
 use crate::rng::Rng;
 use crate::scene::State;
+use crate::states::{control_1, control_2};
 
 pub struct Walker<C> {
     chip: C,
@@ -60,8 +61,15 @@ impl<C: Chip> Walker<C> {
 
     /// What a program does first, so that a quiet host has something on its screen too.
     fn set_up(&mut self, r: &mut Rng) {
-        self.controls(r);
-        self.chip.border_compares();
+        // Placed, or written as a program does it.
+        if r.flag() {
+            self.controls(r);
+            self.chip.border_compares();
+        } else {
+            self.chip.write(0x12, r.byte());
+            self.control_1(r);
+            self.chip.write_control_2(r.byte());
+        }
         self.chip.write(0x15, r.mask());
         self.chip.write(0x18, r.byte());
         self.chip.write(0x1A, r.byte());
@@ -84,9 +92,19 @@ impl<C: Chip> Walker<C> {
         self.chip.place_controls(ctrl1, r.byte(), compare).expect("the line is below 512");
     }
 
+    /// $D011, with a line that is compared near the present one at times, and a bad line that is forced at times.
+    fn control_1(&mut self, r: &mut Rng) {
+        let s = self.chip.state();
+        let line = if r.flag() { s.raster } else { r.below(512) as u16 };
+        if r.flag() {
+            self.chip.write(0x12, line.wrapping_add(r.below(2) as u16) as u8);
+        }
+        self.chip.write_control_1(control_1(r, s.ctrl1, s.raster, line));
+    }
+
     fn call(&mut self, r: &mut Rng) {
         let raster = self.chip.state().raster as u8;
-        match r.below(10) {
+        match r.below(14) {
             0 | 1 => self.controls(r),
             2 => self.chip.write(r.byte().into(), r.byte()),
             // A sprite on this line or the next.
@@ -100,6 +118,17 @@ impl<C: Chip> Walker<C> {
                 self.chip.place_display_now([true, r.flag(), r.flag(), r.flag()]).expect("the clock is small");
             }
             8 => self.chip.place_display_now([r.flag(), r.flag(), r.flag(), r.flag()]).expect("the clock is small"),
+            9 | 10 => self.control_1(r),
+            11 => {
+                let value = control_2(r, self.chip.state().ctrl2);
+                self.chip.write_control_2(value);
+            }
+            // Off and on again, within a cycle.
+            12 => {
+                let value = self.chip.state().ctrl1;
+                self.chip.write_control_1(value ^ r.pick(&[0x80, 0x40, 0x20, 0x10, 0x08]));
+                self.chip.write_control_1(value);
+            }
             _ => self.chip.see(r.below(4) as u8),
         }
     }

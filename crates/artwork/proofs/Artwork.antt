@@ -13,9 +13,9 @@ use Rattle.sequencer.specs.Tick.{tickable, ticked, ticksFrom}
 use Rattle.chip.proofs.Level.{Level, LevelAnswers, picked}
 use Rattle.sequencer.proofs.Sides.{tick-level, tick-taken, tick-late}
 use Rattle.sequencer.proofs.Kept.{tick-kept}
-use Rattle.calls.proofs.Sides.{write-level, expand-level, compares-level, controls-level, display-level, late-level, phi1-same, count-same, read-same}
-use Rattle.calls.proofs.Kept.{write-kept, expand-kept, compares-kept, controls-kept, display-kept, late-kept}
-use Rattle.artwork.specs.Runs.{Together, Call, done, run, Alike, tick-alike, ticks-alike, write-alike, expand-alike, compares-alike, place-controls-alike, place-display-alike, late-alike, Pairwise, none, more, Same, NeverMovesACycle, Answered}
+use Rattle.calls.proofs.Sides.{write-level, expand-level, compares-level, control-1-level, control-2-level, controls-level, display-level, late-level, phi1-same, count-same, read-same}
+use Rattle.calls.proofs.Kept.{write-kept, expand-kept, compares-kept, control-1-kept, control-2-kept, controls-kept, display-kept, late-kept}
+use Rattle.artwork.specs.Runs.{Together, Call, done, run, Alike, tick-alike, ticks-alike, write-alike, expand-alike, compares-alike, control-1-alike, control-2-alike, place-controls-alike, place-display-alike, late-alike, Pairwise, none, more, Same, NeverMovesACycle, Answered}
 use Rattle.artwork.proofs.Shared.{control-1-same, control-2-same}
 
 level : {a b : Chip} → Together a b → Level a b
@@ -61,6 +61,10 @@ one (expand-alike v) a b t =
     same (record { refused = refl; chip = expand-level (level t) v }) (expand-kept a v (t .left)) (expand-kept b v (t .right))
 one compares-alike a b t =
     same (record { refused = refl; chip = compares-level (level t) }) (compares-kept a (t .left)) (compares-kept b (t .right))
+one (control-1-alike {v} {w} high den rsel yscroll) a b t =
+    same (record { refused = refl; chip = control-1-level (level t) v w high den rsel yscroll }) (control-1-kept a v (t .left)) (control-1-kept b w (t .right))
+one (control-2-alike {v} {w} csel) a b t =
+    same (record { refused = refl; chip = control-2-level (level t) v w csel }) (control-2-kept a v (t .left)) (control-2-kept b w (t .right))
 one (place-controls-alike {c} {d} {x} {y} line den rsel yscroll csel) a b t =
     same (controls-level (level t) c d x y line den rsel yscroll csel) (controls-kept a c x line (t .left)) (controls-kept b d y line (t .right))
 one (place-display-alike {m} {n} {s} {u} display transition access p q) a b t =

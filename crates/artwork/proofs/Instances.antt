@@ -43,7 +43,7 @@ unfolding filled
 filled-above v = lent-bank (replicate 16384 v) (replicate 4096 v) (replicate 1024 v) 4 (length-replicate 16384 v) (length-replicate 4096 v) (length-replicate 1024 v) refl
 
 -- power-up with every picture field and every picture bit of a register another
-pub loud : ℕ → Chip
+unfoldable pub loud : ℕ → Chip
 loud kind =
     record {
       regs = record { mx = replicate 8 255; my = zeros 8; cols = replicate 8 15; bg = replicate 4 15; msbx = 255; enable = 0; yexp = 0; xexp = 255; prio = 255; multi = 255; mc0 = 15; mc1 = 15; ctrl1 = 0xE0; ctrl2 = 0xF7; compare = 0; ptrs = 255; border = 15 };
@@ -57,7 +57,7 @@ loud kind =
       };
     }
 
-at-power-up : (kind : ℕ) → known kind ≡ true → Together (powered kind) (loud kind)
+pub at-power-up : (kind : ℕ) → known kind ≡ true → Together (powered kind) (loud kind)
 unfolding loud powered timed hasBit
 at-power-up kind k =
     record {

@@ -1,4 +1,5 @@
 pub mod Shared
 pub mod Artwork
 pub mod Instances
+pub mod Modes
 pub mod Needed

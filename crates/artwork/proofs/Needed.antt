@@ -33,9 +33,9 @@ use Rattle.chip.specs.declared.Answer.{Answer}
 use Rattle.registers.specs.Control.{timed}
 use Rattle.chip.specs.Accept.{accepted, aecFine, clockFine, placeFine}
 use Rattle.sequencer.specs.Tick.{tickable}
-use Rattle.calls.specs.Calls.{fileWritten, registerWritten, expandAt, controlsPlaced, displayPlaced}
+use Rattle.calls.specs.Calls.{fileWritten, registerWritten, expandAt, controlStored, control1Written, control2Written, controlsPlaced, displayPlaced}
 use Rattle.sequencer.proofs.Sides.{tick-taken, tick-side, tick-bank, tick-unknown, tick-unaccepted}
-use Rattle.artwork.specs.Runs.{Call, tick, write, expand, place-controls, place-display, done}
+use Rattle.artwork.specs.Runs.{Call, tick, write, expand, control-1, control-2, place-controls, place-display, done}
 use Rattle.artwork.proofs.Instances.{filled, filled-low, filled-high, filled-above}
 
 -- after this cycle of this line: DEN latched, both borders open, no sprite busy; sprite 0 enabled at line 100
@@ -102,6 +102,17 @@ pub record Needed (h : Host) : Type 0 where
   -- RSEL, in every cycle: the beam has it
   pub rsel-1 : after h (place-controls 0x18 0 0) (chipAt 11 100) .beam .rsel ≡ true
   pub rsel-0 : after h (place-controls 0x10 0 0) (chipAt 11 100) .beam .rsel ≡ false
+  -- $D011: bit 7 as bit 8 of the compare line, on line 256, YSCROLL, RSEL and DEN; $D016: CSEL
+  pub written-high-1 : after h (control-1 0x90) (chipAt 11 256) .irq .flags ≡ 1
+  pub written-high-0 : after h (control-1 0x10) (chipAt 11 256) .irq .flags ≡ 0
+  pub written-yscroll-0 : after h (control-1 0x10) (chipAt 11 0x30) .bus .balow ≡ true
+  pub written-yscroll-1 : after h (control-1 0x11) (chipAt 11 0x30) .bus .balow ≡ false
+  pub written-rsel-1 : after h (control-1 0x18) (chipAt 11 100) .border .top ≡ 51
+  pub written-rsel-0 : after h (control-1 0x10) (chipAt 11 100) .border .top ≡ 55
+  pub written-den-1 : after h (control-1 0x10) (chipAt 63 0x2F) .beam .latch ≡ true
+  pub written-den-0 : after h (control-1 0x00) (chipAt 63 0x2F) .beam .latch ≡ false
+  pub written-csel-0 : after h (control-2 0x00) (chipAt 55 100) .border .main ≡ true
+  pub written-csel-1 : after h (control-2 0x08) (chipAt 55 100) .border .main ≡ false
   -- the kind, after cycle 63: the line goes on, or the next begins
   pub kind-0 : after h (write 0x20 0) (chipMade 0 (pos 0) 63 100) .beam .cycle ≡ 1
   pub kind-1 : after h (write 0x20 0) (chipMade 1 (pos 0) 63 100) .beam .cycle ≡ 64
@@ -126,7 +137,7 @@ unfolding done
 seen see h x c l e t = ap see (ap (λ (r : Answer). r .chip .side) (tick-taken h (done x c .chip) l e t) ∙ tick-side h (done x c .chip))
 
 pub needed : (h : Host) → lentRefusal h ≡ 0 → Needed h
-unfolding done known kindOf fileWritten registerWritten expandAt controlsPlaced timed accepted aecFine clockFine tickable placeFine fineTest vmliLimit turned hasBit withBit withoutBit pick latch written asked settled triggered irqWritten happens pointerTime dataTime maskAt badLine latched baOutput nextCycle atLastLine nextLine beamTurned Beams.fresh Borders.right38Passed Sprites.allFresh Sprites.fresh Sprites.spriteAt Sprites.upTo Sprites.dmaBegun Sprites.startOne Sprites.started Sprites.firstPhased Sprites.clearAfter Sprites.flipAfter Sprites.expandWritten Buses.fresh Buses.spriteAsks Buses.requested Buses.arbitrated Frames.fresh Frames.swept Frames.rasterBegun Frames.matchRaises Frames.frameBegun Frames.frameEnded Frames.raised Rows.fresh Phases.beginAt Phases.left40At Phases.left38At Phases.right38At Phases.right40At Phases.rememberAt Phases.endAt Phases.bordered Phases.stepAt Phases.firstAt Phases.secondAt Phases.loadAt Phases.phased Phases.slotMoved
+unfolding done known kindOf fileWritten registerWritten expandAt controlStored control1Written control2Written controlsPlaced timed accepted aecFine clockFine tickable placeFine fineTest vmliLimit turned hasBit withBit withoutBit pick latch written asked settled triggered irqWritten happens pointerTime dataTime maskAt badLine latched baOutput nextCycle atLastLine nextLine beamTurned Beams.fresh Borders.compared Borders.right38Passed Sprites.allFresh Sprites.fresh Sprites.spriteAt Sprites.upTo Sprites.dmaBegun Sprites.startOne Sprites.started Sprites.firstPhased Sprites.clearAfter Sprites.flipAfter Sprites.expandWritten Buses.fresh Buses.spriteAsks Buses.requested Buses.arbitrated Frames.fresh Frames.swept Frames.rasterBegun Frames.matchRaises Frames.compared Frames.frameBegun Frames.frameEnded Frames.raised Rows.fresh Phases.beginAt Phases.left40At Phases.left38At Phases.right38At Phases.right40At Phases.rememberAt Phases.endAt Phases.bordered Phases.stepAt Phases.firstAt Phases.secondAt Phases.loadAt Phases.phased Phases.slotMoved
 needed h l =
     record {
       yscroll-0 = seen (λ (s : Side). s .bus .balow) h (place-controls 0x10 0 0) (chipAt 11 0x30) l refl refl;
@@ -147,6 +158,16 @@ needed h l =
       den-0 = seen (λ (s : Side). s .beam .latch) h (place-controls 0x00 0 0) (chipAt 63 0x2F) l refl refl;
       rsel-1 = seen (λ (s : Side). s .beam .rsel) h (place-controls 0x18 0 0) (chipAt 11 100) l refl refl;
       rsel-0 = seen (λ (s : Side). s .beam .rsel) h (place-controls 0x10 0 0) (chipAt 11 100) l refl refl;
+      written-high-1 = seen (λ (s : Side). s .irq .flags) h (control-1 0x90) (chipAt 11 256) l refl refl;
+      written-high-0 = seen (λ (s : Side). s .irq .flags) h (control-1 0x10) (chipAt 11 256) l refl refl;
+      written-yscroll-0 = seen (λ (s : Side). s .bus .balow) h (control-1 0x10) (chipAt 11 0x30) l refl refl;
+      written-yscroll-1 = seen (λ (s : Side). s .bus .balow) h (control-1 0x11) (chipAt 11 0x30) l refl refl;
+      written-rsel-1 = seen (λ (s : Side). s .border .top) h (control-1 0x18) (chipAt 11 100) l refl refl;
+      written-rsel-0 = seen (λ (s : Side). s .border .top) h (control-1 0x10) (chipAt 11 100) l refl refl;
+      written-den-1 = seen (λ (s : Side). s .beam .latch) h (control-1 0x10) (chipAt 63 0x2F) l refl refl;
+      written-den-0 = seen (λ (s : Side). s .beam .latch) h (control-1 0x00) (chipAt 63 0x2F) l refl refl;
+      written-csel-0 = seen (λ (s : Side). s .border .main) h (control-2 0x00) (chipAt 55 100) l refl refl;
+      written-csel-1 = seen (λ (s : Side). s .border .main) h (control-2 0x08) (chipAt 55 100) l refl refl;
       kind-0 = seen (λ (s : Side). s .beam .cycle) h (write 0x20 0) (chipMade 0 (pos 0) 63 100) l refl refl;
       kind-1 = seen (λ (s : Side). s .beam .cycle) h (write 0x20 0) (chipMade 1 (pos 0) 63 100) l refl refl;
     }

@@ -7,14 +7,14 @@ use lib.Dec.{eqb, ltb}
 use lib.IntN.{ℤ}
 use Rattle.laws.specs.Bits.{hasBit}
 use Rattle.memory.specs.Lent.{Host, lentRefusal}
-use Rattle.registers.specs.Control.{DEN, RSEL, YSCROLL, CSEL, timed}
+use Rattle.registers.specs.Control.{RST8, DEN, RSEL, YSCROLL, CSEL, timed}
 use Rattle.registers.specs.Registers.{one-of, between}
 use Rattle.chip.specs.declared.Chip.{Chip}
 use Rattle.chip.specs.declared.Answer.{Answer}
 use Rattle.chip.specs.Chip.{answer}
 use Rattle.chip.specs.Accept.{accepted, clockFine}
 use Rattle.sequencer.specs.Tick.{ticked, ticksFrom}
-use Rattle.calls.specs.Calls.{registerRead, registerWritten, expandAt, comparesBy, controlsPlaced, displayPlaced, lateTaken, phi1, dmaCount}
+use Rattle.calls.specs.Calls.{registerRead, registerWritten, expandAt, comparesBy, control1Written, control2Written, controlsPlaced, displayPlaced, lateTaken, phi1, dmaCount}
 
 -- 01, Timing side and picture side: the timing side is the chip's field `side`, whole, the interrupt and the pending place with it;
 -- 02 (iv): the kind is in its beam, so that two runs share it.
@@ -33,6 +33,8 @@ pub data Call : Type 0 where
   write : ℕ → ℕ → Call
   expand : ℕ → Call
   compares : Call
+  control-1 : ℕ → Call
+  control-2 : ℕ → Call
   place-controls : ℕ → ℕ → ℕ → Call
   place-display : Bool → Bool → Bool → Bool → ℤ → Call
   late : ℕ → Call
@@ -44,6 +46,8 @@ done (ticks h n) c = ticksFrom h n c
 done (write addr v) c = answer 0 (registerWritten c addr v)
 done (expand v) c = answer 0 (expandAt c v)
 done compares c = answer 0 (comparesBy c)
+done (control-1 v) c = answer 0 (control1Written c v)
+done (control-2 v) c = answer 0 (control2Written c v)
 done (place-controls ctrl1 ctrl2 line) c = controlsPlaced c ctrl1 ctrl2 line
 done (place-display display transition access changing forced) c = displayPlaced c display transition access changing forced
 done (late byte) c = lateTaken c byte
@@ -66,6 +70,9 @@ pub data Alike : Call → Call → Type 0 where
   write-alike : {v w : ℕ} (addr : ℕ) → v < 256 → w < 256 → (timingWrite (addr % 64) ≡ true → v ≡ w) → Alike (write addr v) (write addr w)
   expand-alike : (v : ℕ) → Alike (expand v) (expand v)
   compares-alike : Alike compares compares
+  -- 02 (vi): bit 7 of $D011 is a timing register's, bits 5 and 6 are free; so is all of $D016 but CSEL
+  control-1-alike : {v w : ℕ} → RST8 v ≡ RST8 w → DEN v ≡ DEN w → RSEL v ≡ RSEL w → YSCROLL v ≡ YSCROLL w → Alike (control-1 v) (control-1 w)
+  control-2-alike : {v w : ℕ} → CSEL v ≡ CSEL w → Alike (control-2 v) (control-2 w)
   -- ECM, BMM and bit 7 of ctrl1 and all of ctrl2 but CSEL are free
   place-controls-alike : {c d x y : ℕ} (line : ℕ) → DEN c ≡ DEN d → RSEL c ≡ RSEL d → YSCROLL c ≡ YSCROLL d → CSEL x ≡ CSEL y
       → Alike (place-controls c x line) (place-controls d y line)

@@ -6,7 +6,7 @@ use borrow.Author.Tests.{ltb-false}
 use lib.Dec.{eqb, ltb}
 use lib.IntN.{ℤ}
 use Rattle.laws.proofs.Choice.{either, by-test}
-use Rattle.registers.proofs.Kept.{compare-kept}
+use Rattle.registers.proofs.Kept.{compare-kept, line-small}
 use Rattle.schedule.specs.Kind.{kindOf}
 use Rattle.sprites.proofs.Kept.{fine-expand}
 use Rattle.rows.specs.declared.Pending.{Pending}
@@ -15,7 +15,7 @@ use Rattle.side.proofs.Kept.{side-same}
 use Rattle.chip.specs.declared.Chip.{Chip}
 use Rattle.chip.specs.declared.Answer.{Answer}
 use Rattle.chip.specs.Accept.{clockFine, accepted, stateRefusal}
-use Rattle.calls.specs.Calls.{fileWritten, isExpand, registerWritten, expandAt, comparesBy, controlsPlaced, displayPlaced, lateAt, lateTaken}
+use Rattle.calls.specs.Calls.{fileWritten, isExpand, registerWritten, expandAt, comparesBy, controlStored, control1Written, control2Written, controlsPlaced, displayPlaced, lateAt, lateTaken}
 use Rattle.chip.proofs.Accepted.{clock-fine-range}
 use Rattle.chip.proofs.Fine.{accepted-fine, fine-accepted}
 
@@ -54,6 +54,23 @@ module _ (c : Chip) where
         compare = f .compare;
         forced = f .forced;
       })
+
+  -- whatever is written
+  pub control-1-kept : (v : ℕ) → accepted c ≡ true → accepted (control1Written c v) ≡ true
+  unfolding control1Written controlStored
+  control-1-kept v e =
+      let f = accepted-fine c e in
+      fine-accepted (control1Written c v) (record {
+        side = side-same refl refl refl refl refl refl (f .side .sprites) (f .side .place) (f .side);
+        compare = line-small v (c .regs .compare);
+        forced = f .forced;
+      })
+
+  pub control-2-kept : (v : ℕ) → accepted c ≡ true → accepted (control2Written c v) ≡ true
+  unfolding control2Written controlStored
+  control-2-kept v e =
+      let f = accepted-fine c e in
+      fine-accepted (control2Written c v) (record { side = f .side; compare = f .compare; forced = f .forced })
 
   pub controls-kept : (ctrl1 ctrl2 compare : ℕ) → accepted c ≡ true → accepted (controlsPlaced c ctrl1 ctrl2 compare .chip) ≡ true
   unfolding controlsPlaced

@@ -3,3 +3,4 @@ pub mod Kept
 pub mod Sides
 pub mod Numbers
 pub mod Door
+pub mod Control

@@ -5,24 +5,25 @@ use mathlib.Core.Bool.{Bool, true, false, _||_, cond}
 use lib.Dec.{ltb}
 use lib.IntN.{ℤ}
 use Rattle.registers.specs.declared.Irq.{Irq}
-use Rattle.registers.specs.Control.{DEN, RSEL, YSCROLL, CSEL, timed}
-use Rattle.registers.specs.Registers.{written}
+use Rattle.registers.specs.Control.{RST8, DEN, RSEL, YSCROLL, CSEL, timed}
+use Rattle.registers.specs.Registers.{written, lineBy}
 use Rattle.registers.specs.Irq.{irqWritten}
 use Rattle.registers.proofs.Timing.{takes, shows, written-my, written-enable, written-compare, written-ctrl1, written-ctrl2, written-yexp, irq-written, read-alike, SameFile, by-one, as-one}
+use Rattle.raster.specs.Frame as Raster
 use Rattle.border.specs.Border.{compared}
 use Rattle.sprites.specs.Sprites.{expandWritten}
 use Rattle.rows.specs.declared.Pending.{Pending}
 use Rattle.rows.specs.declared.Pending.the-variants.{Nothing, At}
 use Rattle.rows.specs.Pending.{waits}
 use Rattle.side.specs.declared.Side.{Side}
-use Rattle.side.specs.Set.{irq≔, border≔, sprites≔, rows≔, pending≔}
+use Rattle.side.specs.Set.{irq≔, frame≔, border≔, sprites≔, rows≔, pending≔}
 use Rattle.rows.specs.Set.{display≔, transition≔, access≔}
 use Rattle.chip.specs.declared.Chip.{Chip}
 use Rattle.schedule.specs.Kind.{kindOf}
 use Rattle.chip.proofs.Fine.{accepted-taken}
 use Rattle.chip.specs.Accept.{accepted, clockFine}
 use Rattle.chip.proofs.Level.{Level, LevelAnswers, picked}
-use Rattle.calls.specs.Calls.{registerRead, fileWritten, isExpand, registerWritten, expandAt, comparesBy, controlsPlaced, displayPlaced, lateAt, lateTaken, phi1, dmaCount}
+use Rattle.calls.specs.Calls.{registerRead, fileWritten, isExpand, registerWritten, expandAt, comparesBy, controlStored, control1Written, control2Written, controlsPlaced, displayPlaced, lateAt, lateTaken, phi1, dmaCount}
 
 module _ {a b : Chip} (e : Level a b) where
   file : SameFile (a .regs) (b .regs)
@@ -78,6 +79,33 @@ module _ {a b : Chip} (e : Level a b) where
             ∙ ap (λ (r : Bool). border≔ (compared (b .side .border) r) (b .side)) (file .rsel);
         registers = e .registers;
       }
+
+  -- two values of $D011 that are alike but for ECM and BMM
+  pub control-1-level : (v w : ℕ) → RST8 v ≡ RST8 w → DEN v ≡ DEN w → RSEL v ≡ RSEL w → YSCROLL v ≡ YSCROLL w → Level (control1Written a v) (control1Written b w)
+  unfolding control1Written controlStored timed
+  control-1-level v w high den rsel yscroll =
+      let line : lineBy v (a .regs .compare) ≡ lineBy w (b .regs .compare) = rw (high, file .compare) in
+      record {
+        side =
+            ap (λ (s : Side). by s v (lineBy v (a .regs .compare))) (e .side)
+            ∙ ap (λ (n : ℕ). by (b .side) v n) line
+            ∙ ap (λ (r : Bool). with (b .side) r (lineBy w (b .regs .compare))) rsel;
+        registers = rw (den, rsel, yscroll, file .csel, line, file .my, file .enable, file .yexp);
+      }
+    where
+      with : Side → Bool → ℕ → Side
+      with s rsel line =
+          let now = Raster.compared (s .frame) (s .irq) (s .beam .raster) line in
+          irq≔ (now .irq) (frame≔ (now .frame) (border≔ (compared (s .border) rsel) s))
+
+      by : Side → ℕ → ℕ → Side
+      by s v line = with s (RSEL v) line
+
+  -- two values of $D016 that are alike in CSEL
+  pub control-2-level : (v w : ℕ) → CSEL v ≡ CSEL w → Level (control2Written a v) (control2Written b w)
+  unfolding control2Written controlStored timed
+  control-2-level v w csel =
+      record { side = e .side; registers = rw (file .den, file .rsel, file .yscroll, csel, file .compare, file .my, file .enable, file .yexp) }
 
   pub controls-level : (c d x y line : ℕ) → DEN c ≡ DEN d → RSEL c ≡ RSEL d → YSCROLL c ≡ YSCROLL d → CSEL x ≡ CSEL y
       → LevelAnswers (controlsPlaced a c x line) (controlsPlaced b d y line)

@@ -1,15 +1,17 @@
 -- Every other public call on a chip.
 use Prim.Native.Nat.{ℕ, _%_}
-use mathlib.Core.Bool.{Bool, cond}
+use mathlib.Core.Bool.{Bool, not, _||_, cond}
 use lib.Dec.{eqb, ltb}
 use lib.IntN.{ℤ}
 use lib.ListN.{set}
-use Rattle.registers.specs.Control.{RSEL}
-use Rattle.registers.specs.Registers.{written, controlled, expanded}
+use Rattle.registers.specs.declared.Registers.{Registers}
+use Rattle.registers.specs.Control.{RSEL, modeNumber}
+use Rattle.registers.specs.Registers.{written, controlled, control1Stored, control2Stored, expanded}
 use Rattle.registers.specs.Read.{readOf}
 use Rattle.registers.specs.Irq.{irqWritten}
 use Rattle.schedule.specs.Kind.{kindOf}
 use Rattle.schedule.specs.Requests.{spritesIn}
+use Rattle.raster.specs.Frame as Raster
 use Rattle.border.specs.Border.{compared}
 use Rattle.sprites.specs.Sprites.{expandWritten}
 use Rattle.arbitration.specs.Bus.{phi1High}
@@ -17,7 +19,7 @@ use Rattle.rows.specs.declared.Pending.{Pending}
 use Rattle.rows.specs.declared.Pending.the-variants.{Nothing, At}
 use Rattle.rows.specs.Pending.{waits}
 use Rattle.access.specs.Matrix.{lateWord}
-use Rattle.side.specs.Set.{irq≔, border≔, sprites≔, rows≔, pending≔}
+use Rattle.side.specs.Set.{irq≔, frame≔, border≔, sprites≔, rows≔, pending≔}
 use Rattle.rows.specs.Set.{display≔, transition≔, access≔}
 use Rattle.picture.specs.Set.{changing≔, forced≔}
 use Rattle.chip.specs.declared.Chip.{Chip}
@@ -52,6 +54,26 @@ registerWritten c addr v = cond (isExpand addr) (expandAt c v) (fileWritten c ad
 -- 01, Run file kind 5: by ctrl1's RSEL
 unfoldable pub comparesBy : Chip → Chip
 comparesBy c = side≔ (border≔ (compared (c .side .border) (RSEL (c .regs .ctrl1))) (c .side)) c
+
+-- 02 (vi): a mode bit changed
+abbrev pub modeMoved : Registers → Registers → Bool
+modeMoved before after = not (eqb (modeNumber (before .ctrl1) (before .ctrl2)) (modeNumber (after .ctrl1) (after .ctrl2)))
+
+-- 02 (vi): a control register is stored; the mode-changing flag is set where a mode bit changed, and not cleared
+unfoldable pub controlStored : Chip → Registers → Chip
+controlStored c g =
+    regs≔ g (picture≔ (pen≔ (changing≔ (c .picture .pen .changing || modeMoved (c .regs) g) (c .picture .pen)) (c .picture)) c)
+
+-- 02 (vi), $D011: ctrl1 with bit 8 of the compare line, the border compares by RSEL, and the new line compared with the raster. Our rule, DIFFERENCES 32
+unfoldable pub control1Written : Chip → ℕ → Chip
+control1Written c v =
+    let g = control1Stored (c .regs) v in
+    let now = Raster.compared (c .side .frame) (c .side .irq) (c .side .beam .raster) (g .compare) in
+    side≔ (irq≔ (now .irq) (frame≔ (now .frame) (border≔ (compared (c .side .border) (RSEL v)) (c .side)))) (controlStored c g)
+
+-- 02 (vi), $D016: ctrl2
+unfoldable pub control2Written : Chip → ℕ → Chip
+control2Written c v = controlStored c (control2Stored (c .regs) v)
 
 -- 01, Placing calls: ctrl1, ctrl2, compare line only; 5 where the line is above 511
 unfoldable pub controlsPlaced : Chip → ℕ → ℕ → ℕ → Answer

@@ -4,10 +4,11 @@ ghost use mathlib.Core.Path.{_≡_};
 ghost use mathlib.Core.Bool.{Bool};
 ghost use Prim.Native.Nat.{_<_};
 ghost use lib.IntN.{ℤ};
-ghost use Rattle.calls.specs.Calls.{registerRead, fileWritten, expandAt, registerWritten, comparesBy, controlsPlaced, displayPlaced, lateAt, lateTaken, phi1, dmaCount};
+ghost use Rattle.calls.specs.Calls.{registerRead, fileWritten, expandAt, registerWritten, comparesBy, controlStored, control1Written, control2Written, controlsPlaced, displayPlaced, lateAt, lateTaken, phi1, dmaCount};
 use chip::Answer;
 use chip::Chip;
 use picture::Pen;
+use registers::Registers;
 use rows::Pending;
 use rows::Waits;
 
@@ -74,6 +75,54 @@ pub fn border_compares(mut chip: Chip) -> Chip
     side.border = picked;
     chip.side = side;
     chip
+}
+
+// A register file with another control register; a mode bit that changed is told to the next tick.
+fn store_control(mut chip: Chip, stored: Registers) -> Chip
+    ensures { λ r. ⌜ r ≡ controlStored chip stored ⌝ }
+{
+    let regs = chip.regs;
+    let mut picture = chip.picture;
+    let mut pen = picture.pen;
+    let before = registers::mode(regs.ctrl1, regs.ctrl2);
+    let after = registers::mode(stored.ctrl1, stored.ctrl2);
+    pen.changing = pen.changing | (before != after);
+    picture.pen = pen;
+    chip.regs = stored;
+    chip.picture = picture;
+    chip
+}
+
+// $D011, with its effects on the compare line, the border and the interrupt.
+pub fn write_control_1(mut chip: Chip, value: u8) -> Chip
+    ensures { λ r. ⌜ r ≡ control1Written chip value ⌝ }
+{
+    let regs = chip.regs;
+    let mut side = chip.side;
+    let beam = side.beam;
+    let frame = side.frame;
+    let border = side.border;
+    let irq = side.irq;
+    let stored = regs.write_control_1(value);
+    let now = frame.compare(irq, beam.raster, stored.compare);
+    let rsel = registers::rsel(value);
+    let picked = border.compares(rsel);
+    let told = now.irq;
+    let matched = now.frame;
+    side.irq = told;
+    side.frame = matched;
+    side.border = picked;
+    chip.side = side;
+    store_control(chip, stored)
+}
+
+// $D016.
+pub fn write_control_2(chip: Chip, value: u8) -> Chip
+    ensures { λ r. ⌜ r ≡ control2Written chip value ⌝ }
+{
+    let regs = chip.regs;
+    let stored = regs.write_control_2(value);
+    store_control(chip, stored)
 }
 
 pub fn place_controls(mut chip: Chip, ctrl1: u8, ctrl2: u8, compare: u16) -> Answer

@@ -83,6 +83,8 @@ eventOf (step.Late value) = event.Nothing
 eventOf step.Borders = event.Nothing
 eventOf (step.Display shown transition access changing) = event.Nothing
 eventOf (step.Bank bank) = event.Nothing
+eventOf (step.Control1 value) = event.Nothing
+eventOf (step.Control2 value) = event.Nothing
 
 -- 01, Run file: a step by its answer; a refusal ends the run
 abbrev pub madeBy : Run → Step → Done → Made

@@ -142,6 +142,8 @@ fn event_of(step: Step) -> Event
         Step::Borders => Event::Nothing,
         Step::Display(_, _, _, _) => Event::Nothing,
         Step::Bank(_) => Event::Nothing,
+        Step::Control1(_) => Event::Nothing,
+        Step::Control2(_) => Event::Nothing,
     }
 }
 

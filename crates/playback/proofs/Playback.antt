@@ -55,6 +55,8 @@ step-within h c (step.Late value) e = tt
 step-within h c step.Borders e = tt
 step-within h c (step.Display shown transition access changing) e = tt
 step-within h c (step.Bank bank) e = tt
+step-within h c (step.Control1 value) e = tt
+step-within h c (step.Control2 value) e = tt
 
 did-within : (h : Host) (r : Run) (s : Step) (fine : Bool) → eqb (doneOf h (r .chip) s .refused) 0 ≡ fine
     → AllWithin (recordsBy (madeBy r s (doneOf h (r .chip) s) .event) (madeBy r s (doneOf h (r .chip) s) .run .chip))

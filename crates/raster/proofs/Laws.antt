@@ -57,3 +57,13 @@ pub swept-later : (k : Kind) (f : Frame) (i : Irq) (cycle raster compare : ℕ) 
     → _≡_ {A = Swept} (record { begins = false; line = raster; wraps = false; raster = raster; latch = latched false raster den latch; kept = latched false raster den latch; frame = f; irq = i }) (swept k f i cycle raster compare den latch)
 unfolding swept rasterBegun matchRaises frameBegun frameEnded raised
 swept-later k f i cycle raster compare den latch l = rw (l .begins, l .wraps, never-both (f .matched), picks false 0 raster, and-true (latched false raster den latch))
+
+-- where no line begins the line stays, and the latch goes by it
+module _ (k : Kind) (f : Frame) (i : Irq) (cycle raster compare : ℕ) (den latch : Bool) (b : happens lineBegins cycle ≡ false) where
+  pub line-inside : swept k f i cycle raster compare den latch .line ≡ raster
+  unfolding swept rasterBegun
+  line-inside = rw b
+
+  pub latch-inside : swept k f i cycle raster compare den latch .latch ≡ latched false raster den latch
+  unfolding swept rasterBegun
+  latch-inside = rw b

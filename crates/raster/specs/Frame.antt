@@ -1,6 +1,6 @@
 -- The beginning of a line and the end of a frame (01, tick 3 and 4).
 use Prim.Native.Nat.{ℕ}
-use mathlib.Core.Bool.{Bool, false, not, _&&_, _||_, cond}
+use mathlib.Core.Bool.{Bool, true, false, not, _&&_, _||_, cond}
 use lib.Dec.{eqb}
 use Rattle.laws.specs.Pick.{pick}
 use Rattle.registers.specs.declared.Irq.{Irq}
@@ -10,6 +10,7 @@ use Rattle.schedule.specs.Diagram.{happens, lineBegins, frameEnds}
 use Rattle.timing.specs.Beam.{nextLine, atLastLine, latched}
 use Rattle.raster.specs.declared.Frame.{Frame}
 use Rattle.raster.specs.declared.Swept.{Swept}
+use Rattle.raster.specs.declared.Compared.{Compared}
 use Rattle.raster.specs.Set.{ending≔, matched≔}
 
 -- 01, power-up: no flag is set
@@ -20,7 +21,11 @@ fresh = record { ending = false; matched = false }
 unfoldable pub rasterBegun : Kind → Bool → ℕ → ℕ
 rasterBegun k begins raster = cond begins (nextLine k raster) raster
 
--- 01, tick 3; departs, DIFFERENCES 26: an equal line raises the raster interrupt once while matched
+-- 01, tick 3, and 02 (vi): the raster compare, at a line's begin and at a write of $D011. Where there is one, the line matches if it is the compare line
+abbrev pub lineMatches : Bool → ℕ → ℕ → Bool
+lineMatches compares raster compare = compares && eqb raster compare
+
+-- 01, tick 3, and 02 (vi); departs, DIFFERENCES 26: an equal line raises the raster interrupt once while matched
 unfoldable pub matchRaises : Bool → Bool → Bool
 matchRaises matched before = matched && not before
 
@@ -31,7 +36,13 @@ raised irq raises = cond raises (triggered irq 1) irq
 -- 01, tick 3: the last line sets the frame flag and clears the match; any other matches where it equals the compare line
 unfoldable pub frameBegun : Frame → Bool → Bool → ℕ → ℕ → Frame
 frameBegun f begins last raster compare =
-    cond begins (ending≔ (f .ending || last) (matched≔ (not last && eqb raster compare) f)) f
+    cond begins (ending≔ (f .ending || last) (matched≔ (lineMatches (not last) raster compare) f)) f
+
+-- 02 (vi): a write of $D011 compares on every line, the last too
+unfoldable pub compared : Frame → Irq → ℕ → ℕ → Compared
+compared f i raster compare =
+    let now = lineMatches true raster compare in
+    record { frame = matched≔ now f; irq = raised i (matchRaises now (f .matched)) }
 
 -- 01, tick 4: the frame flag is cleared
 unfoldable pub frameEnded : Frame → Bool → Frame

@@ -2,7 +2,7 @@
 ghost use mathlib.Core.Path.{_≡_};
 ghost use Prim.Native.Nat.{_<_};
 ghost use Rattle.schedule.specs.Kind.{kindOf};
-ghost use Rattle.raster.specs.Frame.{fresh, rasterBegun, matchRaises, frameBegun, frameEnded, raised, swept};
+ghost use Rattle.raster.specs.Frame.{fresh, rasterBegun, lineMatches, matchRaises, frameBegun, frameEnded, raised, compared, swept};
 use registers::Irq;
 
 // What waits from line to line: the frame's end and the raster match.
@@ -23,6 +23,12 @@ pub struct Swept {
     pub irq: Irq,
 }
 
+// What a comparison of the line leaves.
+pub struct Compared {
+    pub frame: Frame,
+    pub irq: Irq,
+}
+
 fn raster_begun(kind: u8, begins: bool, raster: u16) -> u16
     ensures { λ r. ⌜ r ≡ rasterBegun (kindOf kind) begins raster ⌝ }
 {
@@ -30,6 +36,13 @@ fn raster_begun(kind: u8, begins: bool, raster: u16) -> u16
         return timing::next_line(kind, raster);
     }
     raster
+}
+
+// Whether the line is the compare line, where it is compared.
+fn line_matches(compares: bool, raster: u16, compare: u16) -> bool
+    ensures { λ r. ⌜ r ≡ lineMatches compares raster compare ⌝ }
+{
+    compares & (raster == compare)
 }
 
 // A match raises the interrupt once.
@@ -64,10 +77,24 @@ impl Frame {
     {
         if begins {
             self.ending = self.ending | last;
-            self.matched = !last & (raster == compare);
+            self.matched = line_matches(!last, raster, compare);
             return self;
         }
         self
+    }
+
+    // A comparison between two ticks: the match goes by it, and the interrupt.
+    pub fn compare(mut self, irq: Irq, raster: u16, compare: u16) -> Compared
+        ensures { λ r. ⌜ r ≡ compared self irq raster compare ⌝ }
+    {
+        let now = line_matches(true, raster, compare);
+        let raises = match_raises(now, self.matched);
+        let told = raise(irq, raises);
+        self.matched = now;
+        Compared {
+            frame: self,
+            irq: told,
+        }
     }
 
     // The frame's end, in the second cycle.

@@ -1,2 +1,3 @@
 pub mod Kept
 pub mod Timing
+pub mod Modes

@@ -5,7 +5,10 @@ use Rattle.laws.specs.Bits.{hasBit}
 use Rattle.registers.specs.declared.Registers.{Registers}
 use Rattle.registers.specs.declared.Controls.{Controls}
 
--- Bauer 3.2, 0x11: ECM, BMM, DEN, RSEL in bits 6 to 3, YSCROLL in bits 2 to 0
+-- Bauer 3.2, 0x11: RST8 in bit 7, ECM, BMM, DEN, RSEL in bits 6 to 3, YSCROLL in bits 2 to 0
+abbrev pub RST8 : ℕ → Bool
+RST8 ctrl1 = hasBit ctrl1 7
+
 abbrev pub ECM : ℕ → Bool
 ECM ctrl1 = hasBit ctrl1 6
 

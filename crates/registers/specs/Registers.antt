@@ -5,8 +5,10 @@ use mathlib.Core.List.{List, [], _∷_}
 use lib.Dec.{ltb, leb, eqb}
 use lib.ListN.{set}
 use Rattle.laws.specs.Lists.{zeros}
+use Rattle.laws.specs.Pick.{pick}
 use Rattle.registers.specs.declared.Registers.{Registers}
 use Rattle.registers.specs.Set.{controls≔, yexp≔}
+use Rattle.registers.specs.Control.{RST8}
 
 -- 01: power-up
 abbrev pub fresh : Registers
@@ -60,6 +62,18 @@ written s addr v = put (latch (addr % 64)) (addr % 64) v s
 -- 01: the placing call stores these three only
 abbrev pub controlled : Registers → ℕ → ℕ → ℕ → Registers
 controlled s ctrl1 ctrl2 compare = controls≔ ctrl1 ctrl2 compare s
+
+-- Bauer 3.2: RST8 is bit 8 of the compare line; 02 (vi): the low byte stays, and anything above goes
+abbrev pub lineBy : ℕ → ℕ → ℕ
+lineBy ctrl1 compare = pick (RST8 ctrl1) 256 0 + compare % 256
+
+-- 02 (vi): $D011 stores ctrl1 and bit 8 of the compare line
+abbrev pub control1Stored : Registers → ℕ → Registers
+control1Stored s v = controls≔ v (s .ctrl2) (lineBy v (s .compare)) s
+
+-- 02 (vi): $D016 stores ctrl2
+abbrev pub control2Stored : Registers → ℕ → Registers
+control2Stored s v = controls≔ (s .ctrl1) v (s .compare) s
 
 -- 01: the Y-expand write stores its byte
 abbrev pub expanded : Registers → ℕ → Registers

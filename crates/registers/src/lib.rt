@@ -2,7 +2,7 @@
 ghost use mathlib.Core.Path.{_≡_};
 ghost use Rattle.registers.specs.Control.{DEN, RSEL, YSCROLL, CSEL, modeNumber, timed};
 ghost use Rattle.registers.specs.Irq.{quiet, settled, triggered, cleared, enabled, irqWritten};
-ghost use Rattle.registers.specs.Registers.{fresh, written, controlled, expanded};
+ghost use Rattle.registers.specs.Registers.{fresh, written, controlled, control1Stored, control2Stored, expanded};
 ghost use Rattle.registers.specs.Read.{readControl, readLatches, readColour, controlAt, colourAt, readOf};
 
 pub fn den(ctrl1: u8) -> bool
@@ -318,6 +318,23 @@ impl Registers {
         self.ctrl1 = ctrl1;
         self.ctrl2 = ctrl2;
         self.compare = compare;
+        self
+    }
+
+    // 0x11: its bit 7 is bit 8 of the compare line.
+    pub fn write_control_1(mut self, v: u8) -> Self
+        ensures { λ r. ⌜ r ≡ control1Stored self v ⌝ }
+    {
+        let high = laws::has_bit(v, 7);
+        self.ctrl1 = v;
+        self.compare = laws::pick16(high, 256, 0) + self.compare % 256;
+        self
+    }
+
+    pub fn write_control_2(mut self, v: u8) -> Self
+        ensures { λ r. ⌜ r ≡ control2Stored self v ⌝ }
+    {
+        self.ctrl2 = v;
         self
     }
 

@@ -46,7 +46,7 @@ fn odd(b: u8) -> bool {
     b % 2 == 1
 }
 
-// The calls that a run file has too: their numbers are its kinds.
+// The calls that a run file has too: up to 6 their numbers are its kinds.
 fn step_of(call: u8, a: u8, b: u8, c: u8, d: u8) -> Step {
     match call {
         0 => Step::Tick,
@@ -55,6 +55,8 @@ fn step_of(call: u8, a: u8, b: u8, c: u8, d: u8) -> Step {
         3 => Step::Controls(a, b, c as u16 + d as u16 * 256),
         4 => Step::Late(a),
         5 => Step::Borders,
+        10 => Step::Control1(a),
+        11 => Step::Control2(a),
         _ => Step::Display(odd(a), odd(b), odd(c), odd(d)),
     }
 }
@@ -71,7 +73,7 @@ fn dma_count(chip: Chip) -> u16 {
 fn perform(chip: Chip, memories: &[u8], call: u8, bank: u8, a: u8, b: u8, c: u8, d: u8) -> Told
     requires { ⌜ length (now memories) ≡ 21504 ⌝ }
 {
-    if call < 7 {
+    if (call < 7) | (call == 10) | (call == 11) {
         return stepped(chip, memories, bank, step_of(call, a, b, c, d));
     }
     if call == 7 {
@@ -86,9 +88,9 @@ fn perform(chip: Chip, memories: &[u8], call: u8, bank: u8, a: u8, b: u8, c: u8,
     valued(0, chip::power_up(a))
 }
 
-// A run file has the first seven, the questions are the next three, and 12 is power-up.
+// A run file has the first seven, the questions are the next three, then the two control registers, and power-up.
 fn is_call(call: u8) -> bool {
-    (call <= 9) | (call == 12)
+    call <= 12
 }
 
 // Writes one answer; false where that fails.

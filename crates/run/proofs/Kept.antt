@@ -32,3 +32,5 @@ refused-keeps h c (step.Late value) e = (taken-or (eqb (stateRefusal c) 0) _ _ c
 refused-keeps h c step.Borders e = absurd (e refl)
 refused-keeps h c (step.Display shown transition access changing) e = (taken-or (clockFine (c .side .bus .clock)) _ _ c e, refl)
 refused-keeps h c (step.Bank bank) e = absurd (e refl)
+refused-keeps h c (step.Control1 value) e = absurd (e refl)
+refused-keeps h c (step.Control2 value) e = absurd (e refl)

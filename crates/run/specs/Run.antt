@@ -6,7 +6,7 @@ use Rattle.script.specs.declared.Step.the-variants as step
 use Rattle.chip.specs.declared.Chip.{Chip}
 use Rattle.chip.specs.declared.Answer.{Answer}
 use Rattle.sequencer.specs.Tick.{ticked}
-use Rattle.calls.specs.Calls.{registerWritten, expandAt, comparesBy, controlsPlaced, displayPlaced, lateTaken}
+use Rattle.calls.specs.Calls.{registerWritten, expandAt, comparesBy, control1Written, control2Written, controlsPlaced, displayPlaced, lateTaken}
 use Rattle.run.specs.declared.Done.{Done}
 
 -- what a call answers, the bank as it was
@@ -29,3 +29,6 @@ doneOf h c step.Borders = fromChip (comparesBy c) (h .bank)
 doneOf h c (step.Display display transition access changing) =
     fromAnswer (displayPlaced c display transition access changing (c .side .bus .clock)) (h .bank)
 doneOf h c (step.Bank bank) = fromChip c bank
+-- 02 (vi): the writes with their effects
+doneOf h c (step.Control1 value) = fromChip (control1Written c value) (h .bank)
+doneOf h c (step.Control2 value) = fromChip (control2Written c value) (h .bank)

@@ -80,5 +80,7 @@ pub fn step(chip: Chip, bank: u8, step: Step, ram: &[u8], rom: &[u8], colour: &[
             bank,
         ),
         Step::Bank(next) => from_chip(chip, next),
+        Step::Control1(value) => from_chip(calls::write_control_1(chip, value), bank),
+        Step::Control2(value) => from_chip(calls::write_control_2(chip, value), bank),
     }
 }

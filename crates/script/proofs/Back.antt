@@ -11,7 +11,7 @@ use borrow.Author.Tests.{le-ltb, eq-eqb, ne-eqb, eqb-true, leb-true}
 use Rattle.laws.specs.Bytes.{word}
 use Rattle.laws.proofs.Choice.{left, right, and-true}
 use Rattle.script.specs.declared.Step.{Step}
-use Rattle.script.specs.declared.Step.the-variants.{Tick, Write, Expand, Controls, Late, Borders, Display, Bank}
+use Rattle.script.specs.declared.Step.the-variants.{Tick, Write, Expand, Controls, Late, Borders, Display, Bank, Control1, Control2}
 use Rattle.script.specs.declared.Read.the-variants.{Got, Refused}
 use Rattle.script.specs.Step.{allowedIf, stepDecoded, stepOf, byteOf, bytesOf, allowed}
 
@@ -43,6 +43,8 @@ read-back Borders more = there 5 0 0 0 0 more
 read-back (Display shown pending access mode) more =
     simp (there 6 (byteOf shown) (byteOf pending) (byteOf access) (byteOf mode) more, flag-small, flag-back)
 read-back (Bank bank) more = simp (there 7 bank 0 0 0 more, and-true)
+read-back (Control1 value) more = there 8 value 0 0 0 more
+read-back (Control2 value) more = there 9 value 0 0 0 more
 
 -- the identity, for each step that is allowed
 pub same-step : (step : Step) (more : List ℕ) → allowed step ≡ true → stepOf (bytesOf step ++ more) ≡ Got step
@@ -104,11 +106,11 @@ module _ (a b c d : ℕ) (e : (leb a 1 && leb b 1 && leb c 1 && leb d 1) ≡ tru
     flag d (right (leb a 1 && leb b 1 && leb c 1) (leb d 1) e),
   )
 
--- a kind above 7 is none
-no-kind : (k a b c d : ℕ) (step : Step) → stepDecoded (suc (suc (suc (suc (suc (suc (suc (suc k)))))))) a b c d ≡ Got step → ⊥
+-- a kind above 9 is none
+no-kind : (k a b c d : ℕ) (step : Step) → stepDecoded (suc (suc (suc (suc (suc (suc (suc (suc (suc (suc k)))))))))) a b c d ≡ Got step → ⊥
 unfolding stepDecoded
 no-kind k a b c d step e =
-    let n = suc (suc (suc (suc (suc (suc (suc (suc k))))))) in
+    let n = suc (suc (suc (suc (suc (suc (suc (suc (suc (suc k))))))))) in
     let refused : Refused 8 ≡ Got step =
     simp (
       ne-eqb n 0 (λ q. omega arith),
@@ -119,6 +121,8 @@ no-kind k a b c d step e =
       ne-eqb n 5 (λ q. omega arith),
       ne-eqb n 6 (λ q. omega arith),
       ne-eqb n 7 (λ q. omega arith),
+      ne-eqb n 8 (λ q. omega arith),
+      ne-eqb n 9 (λ q. omega arith),
     ) at e in
     let z : _≡_ {A = ℕ} 0 1 = cc in omega arith
 
@@ -160,4 +164,12 @@ written (suc (suc (suc (suc (suc (suc (suc zero))))))) a b c d step h e =
     let p = passed (leb a 3 && eqb b 0 && eqb c 0 && eqb d 0) (Bank a) step e in
     let z = zero3 (leb a 3) b c d (p .0) in
     simp (sym (p .1), z .0, z .1, z .2)
-written (suc (suc (suc (suc (suc (suc (suc (suc k)))))))) a b c d step h e = absurd (no-kind k a b c d step e)
+written (suc (suc (suc (suc (suc (suc (suc (suc zero)))))))) a b c d step h e =
+    let p = passed (eqb b 0 && eqb c 0 && eqb d 0) (Control1 a) step e in
+    let z = zero3 true b c d (p .0) in
+    simp (sym (p .1), z .0, z .1, z .2)
+written (suc (suc (suc (suc (suc (suc (suc (suc (suc zero))))))))) a b c d step h e =
+    let p = passed (eqb b 0 && eqb c 0 && eqb d 0) (Control2 a) step e in
+    let z = zero3 true b c d (p .0) in
+    simp (sym (p .1), z .0, z .1, z .2)
+written (suc (suc (suc (suc (suc (suc (suc (suc (suc (suc k)))))))))) a b c d step h e = absurd (no-kind k a b c d step e)

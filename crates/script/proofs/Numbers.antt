@@ -11,7 +11,7 @@ use borrow.Author.Tests.{lt-ltb, le-ltb, le-leb, lt-leb}
 use Rattle.laws.specs.Bytes.{word}
 use Rattle.laws.proofs.Choice.{either}
 use Rattle.script.specs.declared.Step.{Step}
-use Rattle.script.specs.declared.Step.the-variants.{Tick, Write, Expand, Controls, Late, Borders, Display, Bank}
+use Rattle.script.specs.declared.Step.the-variants.{Tick, Write, Expand, Controls, Late, Borders, Display, Bank, Control1, Control2}
 use Rattle.script.specs.declared.Read.{Read}
 use Rattle.script.specs.declared.Read.the-variants.{Got, Refused}
 use Rattle.script.specs.Step.{allowedIf, stepDecoded, stepOf, numberOf, Stands}
@@ -44,7 +44,9 @@ judged kind a b c d =
     (either Judged (eqb kind 5) (judged-if (eqb a 0 && eqb b 0 && eqb c 0 && eqb d 0) Borders)
     (either Judged (eqb kind 6) (judged-if (leb a 1 && leb b 1 && leb c 1 && leb d 1) (Display (eqb a 1) (eqb b 1) (eqb c 1) (eqb d 1)))
     (either Judged (eqb kind 7) (judged-if (leb a 3 && eqb b 0 && eqb c 0 && eqb d 0) (Bank a))
-    (λ number e. cc))))))))
+    (either Judged (eqb kind 8) (judged-if (eqb b 0 && eqb c 0 && eqb d 0) (Control1 a))
+    (either Judged (eqb kind 9) (judged-if (eqb b 0 && eqb c 0 && eqb d 0) (Control2 a))
+    (λ number e. cc))))))))))
 
 never-7 : (r : Read) → Judged r → numberOf r ≡ 7 → ⊥
 unfolding numberOf

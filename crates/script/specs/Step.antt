@@ -7,7 +7,7 @@ use lib.Dec.{eqb, leb, ltb}
 use lib.ListN.{length, getD}
 use Rattle.laws.specs.Bytes.{lowByte, highByte, word}
 use Rattle.script.specs.declared.Step.{Step}
-use Rattle.script.specs.declared.Step.the-variants.{Tick, Write, Expand, Controls, Late, Borders, Display, Bank}
+use Rattle.script.specs.declared.Step.the-variants.{Tick, Write, Expand, Controls, Late, Borders, Display, Bank, Control1, Control2}
 use Rattle.script.specs.declared.Read.{Read}
 use Rattle.script.specs.declared.Read.the-variants.{Got, Refused}
 
@@ -15,7 +15,7 @@ use Rattle.script.specs.declared.Read.the-variants.{Got, Refused}
 unfoldable pub allowedIf : Bool → Step → Read
 allowedIf fine step = cond fine (Got step) (Refused 8)
 
--- 01, Run file; DECISIONS 33: the kinds with their fields. Unused bytes are 0; a kind above 7 is not allowed
+-- 01, Run file; DECISIONS 33: the kinds with their fields. 02 (vi): kinds 8 and 9. Unused bytes are 0; a kind above 9 is not allowed
 unfoldable pub stepDecoded : ℕ → ℕ → ℕ → ℕ → ℕ → Read
 stepDecoded kind a b c d =
     cond (eqb kind 0) (allowedIf (eqb a 0 && eqb b 0 && eqb c 0 && eqb d 0) Tick)
@@ -26,7 +26,9 @@ stepDecoded kind a b c d =
     (cond (eqb kind 5) (allowedIf (eqb a 0 && eqb b 0 && eqb c 0 && eqb d 0) Borders)
     (cond (eqb kind 6) (allowedIf (leb a 1 && leb b 1 && leb c 1 && leb d 1) (Display (eqb a 1) (eqb b 1) (eqb c 1) (eqb d 1)))
     (cond (eqb kind 7) (allowedIf (leb a 3 && eqb b 0 && eqb c 0 && eqb d 0) (Bank a))
-    (Refused 8))))))))
+    (cond (eqb kind 8) (allowedIf (eqb b 0 && eqb c 0 && eqb d 0) (Control1 a))
+    (cond (eqb kind 9) (allowedIf (eqb b 0 && eqb c 0 && eqb d 0) (Control2 a))
+    (Refused 8))))))))))
 
 -- 01, Run file: an incomplete record is 7 before its fields are judged
 unfoldable pub stepOf : List ℕ → Read
@@ -48,6 +50,8 @@ bytesOf (Late value) = 4 ∷ value ∷ 0 ∷ 0 ∷ 0 ∷ []
 bytesOf Borders = 5 ∷ 0 ∷ 0 ∷ 0 ∷ 0 ∷ []
 bytesOf (Display shown pending access mode) = 6 ∷ byteOf shown ∷ byteOf pending ∷ byteOf access ∷ byteOf mode ∷ []
 bytesOf (Bank bank) = 7 ∷ bank ∷ 0 ∷ 0 ∷ 0 ∷ []
+bytesOf (Control1 value) = 8 ∷ value ∷ 0 ∷ 0 ∷ 0 ∷ []
+bytesOf (Control2 value) = 9 ∷ value ∷ 0 ∷ 0 ∷ 0 ∷ []
 
 -- 01, Run file: a compare line above 511 and a bank above 3 are not allowed
 unfoldable pub allowed : Step → Bool
@@ -59,6 +63,8 @@ allowed (Late value) = true
 allowed Borders = true
 allowed (Display shown pending access mode) = true
 allowed (Bank bank) = leb bank 3
+allowed (Control1 value) = true
+allowed (Control2 value) = true
 
 -- 01, Numbers: the number of the answer, 0 where nothing is refused
 unfoldable pub numberOf : Read → ℕ

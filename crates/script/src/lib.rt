@@ -19,6 +19,8 @@ pub enum Step {
     Borders,
     Display(bool, bool, bool, bool),
     Bank(u8),
+    Control1(u8),
+    Control2(u8),
 }
 
 // What stands in a step's five bytes: the step, or the number of the refusal.
@@ -115,6 +117,8 @@ fn decode(kind: u8, a: u8, b: u8, c: u8, d: u8) -> Read
             Step::Display(a == 1, b == 1, c == 1, d == 1),
         ),
         7 => allowed_if((a <= 3) & (b == 0) & (c == 0) & (d == 0), Step::Bank(a)),
+        8 => allowed_if((b == 0) & (c == 0) & (d == 0), Step::Control1(a)),
+        9 => allowed_if((b == 0) & (c == 0) & (d == 0), Step::Control2(a)),
         _ => Read::Refused(8),
     }
 }
@@ -163,6 +167,8 @@ pub fn bytes_of(step: Step) -> [u8; 5]
             byte_of(mode),
         ],
         Step::Bank(bank) => [7, bank, 0, 0, 0],
+        Step::Control1(value) => [8, value, 0, 0, 0],
+        Step::Control2(value) => [9, value, 0, 0, 0],
     }
 }
 

@@ -1,7 +1,7 @@
 -- A tick keeps the timing side of a state we accept as such a state has it, and power-up gives one. Assumes nothing.
 use Prim.Native.Nat.{ℕ, _≤_}
 use mathlib.Core.Path.{_≡_, refl, sym, subst, _∙_}
-use mathlib.Core.Bool.{Bool, true, cond}
+use mathlib.Core.Bool.{Bool, true, not, _&&_, cond}
 use mathlib.Core.List.{List}
 use native.Mathlib.Omega.{arith}
 use Rattle.laws.specs.Clock.{canTick}
@@ -10,8 +10,8 @@ use Rattle.schedule.specs.Kind.{Kind, known, kindOf, lastCycle, lastLine}
 use Rattle.schedule.proofs.Places.{last-least}
 use Rattle.schedule.specs.Diagram.{happens, mcbaseStep, firstPhase, secondPhase, mcLoad}
 use Rattle.registers.specs.declared.Controls.{Controls}
-use Rattle.timing.specs.Beam.{nextCycle}
-use Rattle.timing.proofs.Kept.{cycle-low, cycle-high, turned-kind, turned-cycle, turned-raster, turned-latch, fresh-kind, fresh-cycle, fresh-raster}
+use Rattle.timing.specs.Beam.{badLine, nextCycle}
+use Rattle.timing.proofs.Kept.{cycle-low, cycle-high, turned-kind, turned-cycle, turned-raster, turned-latch, turned-bad, turned-rising, fresh-kind, fresh-cycle, fresh-raster}
 use Rattle.raster.specs.declared.Swept.{Swept}
 use Rattle.raster.specs.Frame.{swept}
 use Rattle.raster.proofs.Laws.{raster-kept}
@@ -74,6 +74,15 @@ module _ (g : Controls) (s : Side) where
   pub side-latch : turned g s .side .beam .latch ≡ sweep .kept
   unfolding turned
   side-latch = turned-latch (s .beam) _ _ _ _ _ _ _ _
+
+  -- the live bad line, and its rise
+  pub side-bad : turned g s .side .beam .bad ≡ badLine (sweep .line) (g .yscroll) (sweep .latch)
+  unfolding turned
+  side-bad = turned-bad (s .beam) _ _ _ _ _ _ _ _
+
+  pub side-rising : turned g s .side .beam .rising ≡ (badLine (sweep .line) (g .yscroll) (sweep .latch) && not (s .beam .bad))
+  unfolding turned
+  side-rising = turned-rising (s .beam) _ _ _ _ _ _ _ _
 
   pub side-frame : turned g s .side .frame ≡ sweep .frame
   unfolding turned

@@ -52,6 +52,8 @@ step-over (step.Late value) go = tt
 step-over step.Borders go = tt
 step-over (step.Display shown transition access changing) go = tt
 step-over (step.Bank bank) go = tt
+step-over (step.Control1 value) go = tt
+step-over (step.Control2 value) go = tt
 
 did-over : (r : Run) (s : Step) (d : Done) (fine : Bool) → eqb (d .refused) 0 ≡ fine → Over (madeBy r s d .event) (madeBy r s d .run .going)
 did-over r s d true e = simp e (step-over s (r .going))

@@ -89,6 +89,14 @@ module _ (b : Beam) (cycle line : ℕ) (latch kept : Bool) (raster : ℕ) (den r
   unfolding beamTurned
   turned-latch = refl
 
+  pub turned-bad : beamTurned b cycle line latch kept raster den rsel yscroll .bad ≡ badLine line yscroll latch
+  unfolding beamTurned
+  turned-bad = refl
+
+  pub turned-rising : beamTurned b cycle line latch kept raster den rsel yscroll .rising ≡ (badLine line yscroll latch && not (b .bad))
+  unfolding beamTurned
+  turned-rising = refl
+
 -- the latch's rule without a choice
 chosen : (here begins den latch : Bool) → ((here && den) || (latch && not (begins && here))) ≡ cond here (den || (latch && not begins)) latch
 chosen true true den latch = refl

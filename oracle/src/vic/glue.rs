@@ -1,5 +1,6 @@
 //! The original chip behind the port's calls: states in and out, the calls, and their refusals.
 
+use super::constants::IRQ_RASTER;
 use super::fsm::{CharacterAccessState, DisplayState, DisplayTransition, GraphicsMode};
 use super::state::VicII;
 use crate::accept::{clock_in_range, takes, CLOCK_LIMIT};
@@ -193,6 +194,34 @@ impl Chip for Machine {
 
     fn write_y_expand(&mut self, value: u8) {
         self.chip.sprites.write_y_expand(value, self.chip.timing.cycle, &mut self.chip.regs);
+    }
+
+    /// The rule is ours, the fields and what they are set by the original's.
+    fn write_control_1(&mut self, value: u8) {
+        let c = &mut self.chip;
+        let before = (c.regs.ecm(), c.regs.bmm());
+        c.regs.ctrl1 = value;
+        // Nothing above bit 8 stays.
+        c.regs.raster_irq = (c.regs.raster_irq & 0x00FF) | (u16::from(value & 0x80) << 1);
+        c.border.recompute_compare(c.regs.rsel());
+        if (c.regs.ecm(), c.regs.bmm()) != before {
+            c.mode_changing = true;
+        }
+        if c.timing.raster_line != c.regs.raster_irq {
+            c.raster_match = false;
+        } else if !c.raster_match {
+            c.raster_match = true;
+            c.irq.trigger(IRQ_RASTER);
+        }
+    }
+
+    fn write_control_2(&mut self, value: u8) {
+        let c = &mut self.chip;
+        let before = c.regs.mcm();
+        c.regs.ctrl2 = value;
+        if c.regs.mcm() != before {
+            c.mode_changing = true;
+        }
     }
 
     fn place_controls(&mut self, ctrl1: u8, ctrl2: u8, compare: u16) -> Result<(), Refusal> {

@@ -27,6 +27,12 @@ enum-told-7 c = search needs
 enum-told-8 : tie.Need-enum-told-8
 enum-told-8 c = search needs
 
+enum-told-9 : tie.Need-enum-told-9
+enum-told-9 c = search needs
+
+enum-told-10 : tie.Need-enum-told-10
+enum-told-10 c = search needs
+
 returns : tie.Need-returns
 unfolding eventOf
 returns c = simp (c .enum-told .given .1)
@@ -59,6 +65,14 @@ returns-8 : tie.Need-returns-8
 unfolding eventOf
 returns-8 c = simp (c .enum-told8 .given .1)
 
+returns-9 : tie.Need-returns-9
+unfolding eventOf
+returns-9 c = simp (c .enum-told9 .given .1)
+
+returns-10 : tie.Need-returns-10
+unfolding eventOf
+returns-10 c = simp (c .enum-told10 .given .1)
+
 pub event-of-spec : {M : Type 1} → statement M
 event-of-spec =
     tie.close
@@ -71,6 +85,8 @@ event-of-spec =
     enum-told-6
     enum-told-7
     enum-told-8
+    enum-told-9
+    enum-told-10
     returns
     returns-2
     returns-3
@@ -78,4 +94,6 @@ event-of-spec =
     returns-5
     returns-6
     returns-7
-    returns-8)
+    returns-8
+    returns-9
+    returns-10)

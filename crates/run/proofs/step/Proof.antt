@@ -72,6 +72,24 @@ enum-known-step-6 c = search needs
 from-chip-requires-4 : tie.Need-from-chip-requires-4
 from-chip-requires-4 c κs = search needs
 
+enum-known-step-7 : tie.Need-enum-known-step-7
+enum-known-step-7 c = search needs
+
+write-control-1-requires : tie.Need-write-control-1-requires
+write-control-1-requires c κs = search needs
+
+from-chip-requires-5 : tie.Need-from-chip-requires-5
+from-chip-requires-5 c κs = search needs
+
+enum-known-step-8 : tie.Need-enum-known-step-8
+enum-known-step-8 c = search needs
+
+write-control-2-requires : tie.Need-write-control-2-requires
+write-control-2-requires c κs = search needs
+
+from-chip-requires-6 : tie.Need-from-chip-requires-6
+from-chip-requires-6 c κs = search needs
+
 returns : tie.Need-returns
 unfolding doneOf
 returns c = simp (c .from-answer .ensures, c .before .tick .ensures, c .before .before .enum-told .given .1)
@@ -104,6 +122,14 @@ returns-8 : tie.Need-returns-8
 unfolding doneOf
 returns-8 c = simp (c .from-chip4 .ensures, c .before .before .step6 .given .1)
 
+returns-9 : tie.Need-returns-9
+unfolding doneOf
+returns-9 c = simp (c .from-chip5 .ensures, c .before .write-control-1 .ensures, c .before .before .before .step7 .given .1)
+
+returns-10 : tie.Need-returns-10
+unfolding doneOf
+returns-10 c = simp (c .from-chip6 .ensures, c .before .write-control-2 .ensures, c .before .before .before .step8 .given .1)
+
 pub step-spec : {M : Type 1} → statement M
 step-spec =
     tie.close
@@ -131,6 +157,12 @@ step-spec =
     display-requires
     enum-known-step-6
     from-chip-requires-4
+    enum-known-step-7
+    write-control-1-requires
+    from-chip-requires-5
+    enum-known-step-8
+    write-control-2-requires
+    from-chip-requires-6
     returns
     returns-2
     returns-3
@@ -138,4 +170,6 @@ step-spec =
     returns-5
     returns-6
     returns-7
-    returns-8)
+    returns-8
+    returns-9
+    returns-10)

@@ -15,11 +15,11 @@ enum-known-step-2 c = search needs
 enum-known-step-3 : tie.Need-enum-known-step-3
 enum-known-step-3 c = search needs
 
-cast-t16 : tie.Need-cast-t16
-cast-t16 c = search needs
-
 cast-t18 : tie.Need-cast-t18
 cast-t18 c = search needs
+
+cast-t20 : tie.Need-cast-t20
+cast-t20 c = search needs
 
 enum-known-step-4 : tie.Need-enum-known-step-4
 enum-known-step-4 c = search needs
@@ -44,6 +44,12 @@ byte-of-requires-4 c κs = search needs
 
 enum-known-step-6 : tie.Need-enum-known-step-6
 enum-known-step-6 c = search needs
+
+enum-known-step-7 : tie.Need-enum-known-step-7
+enum-known-step-7 c = search needs
+
+enum-known-step-8 : tie.Need-enum-known-step-8
+enum-known-step-8 c = search needs
 
 returns : tie.Need-returns
 unfolding bytesOf
@@ -79,6 +85,14 @@ returns-8 : tie.Need-returns-8
 unfolding bytesOf
 returns-8 c = simp (c .before .step6 .given .1)
 
+returns-9 : tie.Need-returns-9
+unfolding bytesOf
+returns-9 c = simp (c .before .step7 .given .1)
+
+returns-10 : tie.Need-returns-10
+unfolding bytesOf
+returns-10 c = simp (c .before .step8 .given .1)
+
 pub bytes-of-spec : {M : Type 1} → statement M
 bytes-of-spec =
     tie.close
@@ -87,8 +101,8 @@ bytes-of-spec =
     enum-known-step
     enum-known-step-2
     enum-known-step-3
-    cast-t16
     cast-t18
+    cast-t20
     enum-known-step-4
     enum-told-2
     enum-known-step-5
@@ -97,6 +111,8 @@ bytes-of-spec =
     byte-of-requires-3
     byte-of-requires-4
     enum-known-step-6
+    enum-known-step-7
+    enum-known-step-8
     returns
     returns-2
     returns-3
@@ -104,4 +120,6 @@ bytes-of-spec =
     returns-5
     returns-6
     returns-7
-    returns-8)
+    returns-8
+    returns-9
+    returns-10)

@@ -34,6 +34,12 @@ allowed-if-requires-7 c κs = search needs
 allowed-if-requires-8 : tie.Need-allowed-if-requires-8
 allowed-if-requires-8 c κs = search needs
 
+allowed-if-requires-9 : tie.Need-allowed-if-requires-9
+allowed-if-requires-9 c κs = search needs
+
+allowed-if-requires-10 : tie.Need-allowed-if-requires-10
+allowed-if-requires-10 c κs = search needs
+
 returns : tie.Need-returns
 unfolding stepDecoded
 returns c = simp (c .before .match .keys1, c .allowed-if .ensures)
@@ -68,7 +74,15 @@ returns-8 c = simp (c .before .match .keys8, c .allowed-if8 .ensures)
 
 returns-9 : tie.Need-returns-9
 unfolding stepDecoded
-returns-9 c = simp (ne-eqb _ _ (c .match .rest .0 .0 .0 .0 .0 .0 .0 .1), ne-eqb _ _ (c .match .rest .0 .0 .0 .0 .0 .0 .1), ne-eqb _ _ (c .match .rest .0 .0 .0 .0 .0 .1), ne-eqb _ _ (c .match .rest .0 .0 .0 .0 .1), ne-eqb _ _ (c .match .rest .0 .0 .0 .1), ne-eqb _ _ (c .match .rest .0 .0 .1), ne-eqb _ _ (c .match .rest .0 .1), ne-eqb _ _ (c .match .rest .1))
+returns-9 c = simp (c .before .match .keys9, c .allowed-if9 .ensures)
+
+returns-10 : tie.Need-returns-10
+unfolding stepDecoded
+returns-10 c = simp (c .before .match .keys10, c .allowed-if10 .ensures)
+
+returns-11 : tie.Need-returns-11
+unfolding stepDecoded
+returns-11 c = simp (ne-eqb _ _ (c .match .rest .0 .0 .0 .0 .0 .0 .0 .0 .0 .1), ne-eqb _ _ (c .match .rest .0 .0 .0 .0 .0 .0 .0 .0 .1), ne-eqb _ _ (c .match .rest .0 .0 .0 .0 .0 .0 .0 .1), ne-eqb _ _ (c .match .rest .0 .0 .0 .0 .0 .0 .1), ne-eqb _ _ (c .match .rest .0 .0 .0 .0 .0 .1), ne-eqb _ _ (c .match .rest .0 .0 .0 .0 .1), ne-eqb _ _ (c .match .rest .0 .0 .0 .1), ne-eqb _ _ (c .match .rest .0 .0 .1), ne-eqb _ _ (c .match .rest .0 .1), ne-eqb _ _ (c .match .rest .1))
 
 pub decode-spec : {M : Type 1} → statement M
 decode-spec =
@@ -84,6 +98,8 @@ decode-spec =
     allowed-if-requires-6
     allowed-if-requires-7
     allowed-if-requires-8
+    allowed-if-requires-9
+    allowed-if-requires-10
     returns
     returns-2
     returns-3
@@ -92,4 +108,6 @@ decode-spec =
     returns-6
     returns-7
     returns-8
-    returns-9)
+    returns-9
+    returns-10
+    returns-11)
