@@ -39,6 +39,6 @@ pub fn vmli_limit(cycle: u16) -> u8 {
     }
 }
 
-pub fn clock_in_range(clock: i64) -> bool {
+fn clock_in_range(clock: i64) -> bool {
     (0..=CLOCK_LIMIT).contains(&clock)
 }

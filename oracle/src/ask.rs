@@ -4,7 +4,6 @@
 //! Where docs/DIFFERENCES.md has the port leave the original, the original is asked all the same and must do what that page
 //! says of it; the answer is then the port's. Nothing else is put right.
 
-use crate::accept::CLOCK_LIMIT;
 use crate::cases::{lend, Maker};
 use crate::chip::{Chip, Judges, Refusal, BANK_ABOVE_3, WRONG_LENGTH};
 use crate::kind::{column, MOS6567R8, MOS6569, UNKNOWN};
@@ -27,9 +26,8 @@ pub const COUNT: u8 = 3;
 pub const BLOCK: u8 = 4;
 pub const WRITE: u8 = 5;
 pub const READ: u8 = 6;
-pub const DISPLAY: u8 = 7;
 
-const HEAD: usize = 13;
+const HEAD: usize = 7;
 /// What `ask` can lend: a RAM up to the memories' end, a ROM from RAM's end on.
 const LONGEST_RAM: u16 = (RAM + ROM + COLOUR) as u16;
 const LONGEST_ROM: u16 = (ROM + COLOUR) as u16;
@@ -114,13 +112,6 @@ fn block(machine: &mut Machine, pointer: u8, bank: u8, ram: u16, rom: u16) -> Ve
     [&[0, 64], &machine.sprite_bytes(pointer, bank)[..]].concat()
 }
 
-fn display(chip: &mut dyn Chip, given: &[u8; HEAD]) -> Vec<u8> {
-    let odd = |place: usize| given[place] % 2 == 1;
-    let forced = i64::from_le_bytes(given[5..].try_into().expect("eight bytes"));
-    let refusal = chip.place_display([1, 2, 3, 4].map(odd), forced).err().unwrap_or(0);
-    [&[refusal], &chip.state().encode()[..]].concat()
-}
-
 /// What answers: both judges, and the original's masks as far as they were asked.
 struct Asked {
     judges: Judges,
@@ -166,7 +157,6 @@ fn told(asked: &mut Asked, head: &[u8; HEAD], state: Option<&State>, departures:
             chip.state().encode().to_vec()
         }
         READ => vec![chip.read(number(1), head[3], head[4])],
-        DISPLAY => display(chip, head),
         _ => return Ok(None),
     }))
 }
@@ -234,38 +224,8 @@ fn register(maker: &mut Maker, kind: u8, address: u16) -> Vec<u8> {
     [numbered(kind, address, &[x, y]), state.encode().to_vec()].concat()
 }
 
-/// A display that is placed: the forced clock at an edge, near the state's clock, or anywhere.
-fn placed(maker: &mut Maker) -> Vec<u8> {
-    let state = maker.anything();
-    let r = &mut maker.random;
-    let forced = match r.below(6) {
-        0 | 1 => r.pick(&[
-            i64::MIN,
-            i64::MIN + 1,
-            -CLOCK_LIMIT,
-            FORCED_AT_POWER_UP,
-            -2,
-            -1,
-            0,
-            1,
-            2,
-            CLOCK_LIMIT - 2,
-            CLOCK_LIMIT - 1,
-            CLOCK_LIMIT,
-            CLOCK_LIMIT + 1,
-            CLOCK_LIMIT + 2,
-            i64::MAX,
-        ]),
-        2 | 3 => state.clock.wrapping_add(r.within(-44, 44)),
-        4 => r.within(0, CLOCK_LIMIT),
-        _ => r.next() as i64,
-    };
-    let flags: [u8; 4] = std::array::from_fn(|_| r.byte());
-    [head(DISPLAY, &[&flags[..], &forced.to_le_bytes()].concat()), state.encode().to_vec()].concat()
-}
-
-/// The parts, a file each: all numbers where there are at most millions, and `count` placed displays; of one kind alone, or of all.
-pub fn make(seed: u64, count: u64, folder: &str, only: Option<u8>) -> io::Result<()> {
+/// The parts, a file each: all numbers where there are at most millions; of one kind alone, or of all.
+pub fn make(seed: u64, folder: &str, only: Option<u8>) -> io::Result<()> {
     fs::create_dir_all(folder)?;
     let mut maker = Maker::new(seed, only);
     let memory = maker.memory().clone();
@@ -295,8 +255,7 @@ pub fn make(seed: u64, count: u64, folder: &str, only: Option<u8>) -> io::Result
     let wrong = lengths.flat_map(|(bank, ram, rom)| [0, 63, 64, 127, 128, 255].map(|pointer| block_question(pointer, bank, ram, rom)));
     part("block", &mut right.chain(wrong))?;
     part("register write", &mut all().map(|address| register(&mut maker, WRITE, address)))?;
-    part("register read", &mut all().map(|address| register(&mut maker, READ, address)))?;
-    part("place display", &mut (0..count).map(|_| placed(&mut maker)))
+    part("register read", &mut all().map(|address| register(&mut maker, READ, address)))
 }
 
 /// A few of each kind, with the edges of each.
@@ -328,7 +287,6 @@ pub fn make_sample(seed: u64, output: &str) -> io::Result<()> {
             questions.push(register(&mut maker, kind, page * 64 + place));
         }
     }
-    questions.extend((0..64).map(|_| placed(&mut maker)));
     for question in questions {
         output.write_all(&question)?;
     }

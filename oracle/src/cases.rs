@@ -219,7 +219,7 @@ enum End {
 
 /// Every end, so that each comes in its turn.
 fn all_ends() -> Vec<End> {
-    let mut all = vec![End::Past(0, POWER_UP + 1, 255)];
+    let mut all = vec![End::Past(0, POWER_UP + 1, 255), End::Past(0, RETIRED, RETIRED)];
     all.extend(fields().into_iter().filter_map(|field| match field.sort {
         Sort::Number | Sort::Signed => None,
         Sort::Flag => Some(End::Past(6 + field.offset, 2, 255)),

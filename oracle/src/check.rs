@@ -155,9 +155,6 @@ impl Chip for Beside<'_> {
     fn border_compares(&mut self) {
         self.both(|chip| chip.border_compares());
     }
-    fn place_display(&mut self, flags: [bool; 4], forced: i64) -> Result<(), Refusal> {
-        self.both(|chip| chip.place_display(flags, forced))
-    }
     // The calls that change nothing: run files have none of them.
     fn read(&self, address: u16, light_pen_x: u8, light_pen_y: u8) -> u8 {
         self.judges.original.read(address, light_pen_x, light_pen_y)

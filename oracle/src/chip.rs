@@ -14,7 +14,6 @@ pub const BANK_ABOVE_3: Refusal = 2;
 pub const NOT_ACCEPTED: Refusal = 3;
 pub const CLOCK_AT_END: Refusal = 4;
 pub const COMPARE_ABOVE_511: Refusal = 5;
-pub const FORCED_CLOCK_OUT_OF_RANGE: Refusal = 6;
 pub const UNKNOWN_KIND: Refusal = 12;
 
 pub trait Chip {
@@ -35,8 +34,6 @@ pub trait Chip {
     fn place_controls(&mut self, ctrl1: u8, ctrl2: u8, compare: u16) -> Result<(), Refusal>;
     fn late_byte(&mut self, value: u8) -> Result<(), Refusal>;
     fn border_compares(&mut self);
-    /// Display, transition, access and mode flag, and the forced clock.
-    fn place_display(&mut self, flags: [bool; 4], forced: i64) -> Result<(), Refusal>;
     fn read(&self, address: u16, light_pen_x: u8, light_pen_y: u8) -> u8;
     fn ba_high_at_phi1(&self) -> bool;
     fn sprites_with_dma(&self) -> u8;
@@ -63,11 +60,6 @@ pub trait Chip {
             }
             met.tick(self.late());
         }
-    }
-
-    /// The forced clock is the state's clock, as in a run file and in replay.
-    fn place_display_now(&mut self, flags: [bool; 4]) -> Result<(), Refusal> {
-        self.place_display(flags, self.state().clock)
     }
 }
 

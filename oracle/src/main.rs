@@ -47,7 +47,7 @@ or with --kind 6569 or --kind 6567R8 for one kind of chip:
   oracle sample-run SEED OUTFILE         make a run file of one frame and a little more
   oracle chart < FILE > OUT              chart a run file
   oracle dump < FILE > OUT               dump a run file's ticks
-  oracle questions SEED COUNT DIR        make questions for ask, a file for each part
+  oracle questions SEED DIR              make questions for ask, a file for each part
   oracle sample-questions SEED OUTFILE   make the few questions that the test asks
   oracle ask INFILE OUTFILE              answer questions
   oracle check SEED COUNT                check the original on accepted states
@@ -130,7 +130,7 @@ fn run(arguments: &[&str]) -> io::Result<Option<bool>> {
             met.tell();
             true
         }),
-        ["questions", seed, count, folder] => ask::make(number(seed)?, number(count)?, folder, only).map(|()| true),
+        ["questions", seed, folder] => ask::make(number(seed)?, folder, only).map(|()| true),
         ["sample-questions", seed, output] => ask::make_sample(number(seed)?, output).map(|()| true),
         ["ask", input, output] => ask::answer(input, output).map(|()| true),
         ["check", seed, count] => Ok(check::check(number(seed)?, number(count)?)),

@@ -5,8 +5,8 @@
 //! original's own, as the merge, is the original's rule. A number such as 3.8.1 is a section of the article, "departure 4" an entry of
 //! that page. A rule without a kind in it has the same cycles on both.
 
-use crate::accept::{clock_in_range, takes, CLOCK_LIMIT};
-use crate::chip::{Chip, Refusal, BANK_ABOVE_3, CLOCK_AT_END, COMPARE_ABOVE_511, FORCED_CLOCK_OUT_OF_RANGE};
+use crate::accept::{takes, CLOCK_LIMIT};
+use crate::chip::{Chip, Refusal, BANK_ABOVE_3, CLOCK_AT_END, COMPARE_ABOVE_511};
 use crate::kind::{column, Column, Slot};
 use crate::memory::constants::MapRegion;
 use crate::memory::{Memory, Phi1Mode};
@@ -579,16 +579,6 @@ impl Chip for Model {
 
     fn border_compares(&mut self) {
         (self.s.top, self.s.bottom) = compares(self.s.ctrl1);
-    }
-
-    fn place_display(&mut self, flags: [bool; 4], forced: i64) -> Result<(), Refusal> {
-        if !clock_in_range(forced) {
-            return Err(FORCED_CLOCK_OUT_OF_RANGE);
-        }
-        let s = &mut self.s;
-        [s.displaying, s.entering, s.accessing, s.mode_changing] = flags;
-        s.forced_clock = forced;
-        Ok(())
     }
 
     fn read(&self, address: u16, light_pen_x: u8, light_pen_y: u8) -> u8 {

@@ -10,6 +10,7 @@ use std::io;
 const ENDS_EARLY: Refusal = 7;
 const NOT_ALLOWED: Refusal = 8;
 const BYTES_LEFT: Refusal = 9;
+const RETIRED_KIND: Refusal = 10;
 
 /// What there is to tell of a run, in its order: the number of the steps, each tick, a refusal and the steps done before it.
 pub enum Event<'a, C> {
@@ -104,9 +105,8 @@ fn step(file: &mut Cursor, chip: &mut impl Chip) -> Result<bool, Refusal> {
         [3, ctrl1, ctrl2, low, high @ 0..=1] => chip.place_controls(ctrl1, ctrl2, u16::from_le_bytes([low, high]))?,
         [4, value, 0, 0, 0] => chip.late_byte(value)?,
         [5, 0, 0, 0, 0] => chip.border_compares(),
-        [6, state @ 0..=1, transition @ 0..=1, access @ 0..=1, mode @ 0..=1] => {
-            chip.place_display_now([state, transition, access, mode].map(|field| field == 1))?;
-        }
+        // No step any more, whatever its fields are (02 (vii)).
+        [6, ..] => return Err(RETIRED_KIND),
         [7, bank @ 0..=3, 0, 0, 0] => chip.see(bank),
         [8, value, 0, 0, 0] => chip.write_control_1(value),
         [9, value, 0, 0, 0] => chip.write_control_2(value),

@@ -17,7 +17,8 @@ pub const WRITE_Y_EXPAND: u8 = 2;
 pub const PLACE_CONTROLS: u8 = 3;
 pub const LATE_BYTE: u8 = 4;
 pub const BORDER_COMPARES: u8 = 5;
-pub const PLACE_DISPLAY: u8 = 6;
+/// The number of a call that is none any more (02 (vii)).
+pub const RETIRED: u8 = 6;
 pub const READ: u8 = 7;
 pub const BA_HIGH_AT_PHI1: u8 = 8;
 pub const SPRITES_WITH_DMA: u8 = 9;
@@ -26,41 +27,26 @@ pub const WRITE_CONTROL_2: u8 = 11;
 pub const POWER_UP: u8 = 12;
 
 /// Every call but the tick.
-pub const OTHERS: [u8; 12] = [
-    WRITE,
-    WRITE_Y_EXPAND,
-    PLACE_CONTROLS,
-    LATE_BYTE,
-    BORDER_COMPARES,
-    PLACE_DISPLAY,
-    READ,
-    BA_HIGH_AT_PHI1,
-    SPRITES_WITH_DMA,
-    WRITE_CONTROL_1,
-    WRITE_CONTROL_2,
-    POWER_UP,
-];
+pub const OTHERS: [u8; 11] =
+    [WRITE, WRITE_Y_EXPAND, PLACE_CONTROLS, LATE_BYTE, BORDER_COMPARES, READ, BA_HIGH_AT_PHI1, SPRITES_WITH_DMA, WRITE_CONTROL_1, WRITE_CONTROL_2, POWER_UP];
 
-/// The calls by number, for messages.
-const CALLS: [&str; 13] = [
-    "tick",
-    "register write",
-    "Y-expand write",
-    "place controls",
-    "late byte",
-    "border compares",
-    "place display",
-    "register read",
-    "ba_high_at_phi1",
-    "sprites with DMA",
-    "control 1 write",
-    "control 2 write",
-    "power-up",
-];
-
-/// Nothing where there is no such call.
+/// A call's name, for messages; nothing where there is no such call.
 pub fn called(call: u8) -> Option<&'static str> {
-    CALLS.get(usize::from(call)).copied()
+    Some(match call {
+        TICK => "tick",
+        WRITE => "register write",
+        WRITE_Y_EXPAND => "Y-expand write",
+        PLACE_CONTROLS => "place controls",
+        LATE_BYTE => "late byte",
+        BORDER_COMPARES => "border compares",
+        READ => "register read",
+        BA_HIGH_AT_PHI1 => "ba_high_at_phi1",
+        SPRITES_WITH_DMA => "sprites with DMA",
+        WRITE_CONTROL_1 => "control 1 write",
+        WRITE_CONTROL_2 => "control 2 write",
+        POWER_UP => "power-up",
+        _ => return None,
+    })
 }
 
 #[derive(Clone, Debug)]
@@ -123,7 +109,6 @@ pub fn perform(chip: &mut dyn Chip, case: &Case) -> Result<u16, Refusal> {
             chip.border_compares();
             Ok(0)
         }
-        PLACE_DISPLAY => chip.place_display_now(case.arguments.map(|byte| byte % 2 == 1)).map(|()| 0),
         READ => Ok(chip.read(a.into(), b, c).into()),
         BA_HIGH_AT_PHI1 => Ok(chip.ba_high_at_phi1().into()),
         WRITE_CONTROL_1 => {

@@ -78,11 +78,6 @@ impl Run {
         self.steps.push([5, 0, 0, 0, 0]);
     }
 
-    fn display(&mut self, fields: [bool; 4]) {
-        let [a, b, c, d] = fields.map(u8::from);
-        self.steps.push([6, a, b, c, d]);
-    }
-
     fn bank(&mut self, bank: u8) {
         self.steps.push([7, bank, 0, 0, 0]);
     }
@@ -191,23 +186,22 @@ fn random_call(r: &mut Rng, run: &mut Run, ticks: usize) {
         ctrl1 = (ctrl1 & 0xF8) | (line as u8 & 7);
     }
     let compare = if r.flag() { r.below(512) as u16 } else { (line as u16 + r.below(3) as u16) % run.lines() as u16 };
-    match r.below(16) {
+    match r.below(14) {
         0..=2 => run.controls(ctrl1, r.byte(), compare),
         3 => run.write(r.byte(), r.byte()),
         4 => run.write(2 * r.below(8) as u8 + 1, (line as u8).wrapping_add(r.below(3) as u8)),
         5 => run.write(0x15, r.mask()),
         6 => run.write_y_expand(r.mask()),
         7 => run.border_compares(),
-        8 | 9 => run.display([r.flag(), r.flag(), r.flag(), r.flag()]),
-        10 => run.late_byte(r.byte()),
-        11 | 12 if r.flag() => run.compare_line(ctrl1, compare),
-        11 | 12 => run.control_1(ctrl1),
+        8 => run.late_byte(r.byte()),
+        9 | 10 if r.flag() => run.compare_line(ctrl1, compare),
+        9 | 10 => run.control_1(ctrl1),
         // Off the line and on it again.
-        13 => {
+        11 => {
             run.control_1(with_line(ctrl1, !(line as u16)));
             run.compare_line(ctrl1, line as u16);
         }
-        14 => run.control_2(r.byte()),
+        12 => run.control_2(r.byte()),
         _ => run.bank(r.below(4) as u8),
     }
 }
@@ -341,7 +335,6 @@ fn placed_game(r: &mut Rng, column: Column, ticks: usize) -> Run {
             run.write(0x18, r.byte());
             ctrl1 ^= 0x20;
             run.controls(ctrl1, ctrl2 ^ 0x10, second_split as u16);
-            run.display([true, false, false, true]);
         }
         if cycle == 12 && line == second_split {
             run.write(0x19, 0x0F);
@@ -353,10 +346,9 @@ fn placed_game(r: &mut Rng, column: Column, ticks: usize) -> Run {
         if line == crunch && (cycle == 14 || cycle == 15) {
             run.write_y_expand(if cycle == 14 { 0xFF } else { r.mask() });
         }
-        // A bad line forced in the middle of a line, as the host's $D011 handler does it.
+        // A bad line forced in the middle of a line.
         if line == forced && cycle == forced_cycle {
             run.controls((ctrl1 & 0xF8) | (line as u8 & 7), ctrl2, second_split as u16);
-            run.display([true, true, true, false]);
         }
         if line == forced && cycle == 60 {
             run.controls(ctrl1, ctrl2, second_split as u16);
@@ -433,6 +425,10 @@ enum Fault {
     AddressCut,
     /// A step that is not allowed.
     Step([u8; 5]),
+    /// A step of the retired kind, with any fields; what comes after it is not judged, and is wrong at times.
+    Retired,
+    /// The same, cut off: 7 comes first.
+    RetiredCut,
     /// A byte of this kind's step that is not used, and not 0.
     Unused(u8, usize),
     FirstCountMissing,
@@ -442,15 +438,15 @@ enum Fault {
 
 /// Every fault, so that each comes in its turn.
 fn faults() -> Vec<Fault> {
-    let mut all = vec![Fault::CutAnywhere, Fault::CutInStep, Fault::BytesTooMany, Fault::AnyByte];
+    let mut all = vec![Fault::CutAnywhere, Fault::CutInStep, Fault::BytesTooMany, Fault::AnyByte, Fault::Retired, Fault::RetiredCut];
     for section in 0..3 {
         all.extend([Some(0), Some(1), None].map(|above| Fault::Count(section, above)));
         all.extend([Some(0), None].map(|past| Fault::Address(section, past)));
     }
     all.push(Fault::AddressCut);
     let steps = [[10, 0, 0, 0, 0], [255, 0, 0, 0, 0], [7, 4, 0, 0, 0], [3, 0x1B, 8, 0, 2], [3, 0x1B, 8, 255, 255]];
-    let displays = [[6, 2, 1, 0, 1], [6, 0, 2, 0, 1], [6, 0, 1, 2, 1], [6, 0, 1, 0, 2], [6, 255, 1, 0, 1]];
-    all.extend(steps.into_iter().chain(displays).map(Fault::Step));
+    let retired = [[6, 0, 0, 0, 0], [6, 1, 0, 1, 1], [6, 2, 1, 0, 1], [6, 0, 1, 0, 2], [6, 255, 255, 255, 255]];
+    all.extend(steps.into_iter().chain(retired).map(Fault::Step));
     for (kind, used) in [(0, 0), (1, 2), (2, 1), (4, 1), (5, 0), (7, 1), (8, 1), (9, 1)] {
         all.extend((used + 1..=4).map(|place| Fault::Unused(kind, place)));
     }
@@ -516,6 +512,24 @@ fn damaged(r: &mut Rng, column: Column, turn: u64) -> Vec<u8> {
             return bytes;
         }
         Fault::Step(record) => run.steps[step] = record,
+        Fault::Retired => {
+            run.steps[step] = [6, r.byte(), r.byte(), r.byte(), r.byte()];
+            if r.flag() {
+                run.steps.insert(step + 1, [10, 0, 0, 0, 0]);
+            }
+            let mut bytes = run.encode();
+            let after = run.steps_at() + 5 * (step + 1);
+            if r.chance(1, 3) {
+                bytes.truncate(after + r.below((bytes.len() - after) as u64 + 1) as usize);
+            }
+            return bytes;
+        }
+        Fault::RetiredCut => {
+            run.steps[step] = [6, r.byte(), r.byte(), r.byte(), r.byte()];
+            let mut bytes = run.encode();
+            bytes.truncate(run.steps_at() + 5 * step + r.within(1, 4) as usize);
+            return bytes;
+        }
         Fault::Unused(kind, place) => {
             let mut record = [kind, 0, 0, 0, 0];
             record[place] = r.pick(&[1, 255]);

@@ -102,6 +102,13 @@ impl<C: Chip> Walker<C> {
         self.chip.write_control_1(control_1(r, s.ctrl1, s.raster, line));
     }
 
+    /// A scene that goes on, with what no call can place: an access that begins or ends at any time, the forced clock at once.
+    fn saved(&mut self, r: &mut Rng) {
+        let s = self.chip.state();
+        let (displaying, entering, accessing) = (r.chance(3, 4), r.flag(), r.flag());
+        self.chip.load(&State { displaying, entering, accessing, mode_changing: r.flag(), forced_clock: s.clock, ..s });
+    }
+
     fn call(&mut self, r: &mut Rng) {
         let raster = self.chip.state().raster as u8;
         match r.below(14) {
@@ -112,12 +119,11 @@ impl<C: Chip> Walker<C> {
             4 => self.chip.write(0x15, r.mask()),
             5 => self.chip.write_y_expand(r.mask()),
             6 => self.chip.border_compares(),
-            // What a $D011 write does that forces a bad line.
             7 => {
                 self.controls(r);
-                self.chip.place_display_now([true, r.flag(), r.flag(), r.flag()]).expect("the clock is small");
+                self.saved(r);
             }
-            8 => self.chip.place_display_now([r.flag(), r.flag(), r.flag(), r.flag()]).expect("the clock is small"),
+            8 => self.saved(r),
             9 | 10 => self.control_1(r),
             11 => {
                 let value = control_2(r, self.chip.state().ctrl2);

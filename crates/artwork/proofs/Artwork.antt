@@ -13,9 +13,9 @@ use Rattle.sequencer.specs.Tick.{tickable, ticked, ticksFrom}
 use Rattle.chip.proofs.Level.{Level, LevelAnswers, picked}
 use Rattle.sequencer.proofs.Sides.{tick-level, tick-taken, tick-late}
 use Rattle.sequencer.proofs.Kept.{tick-kept}
-use Rattle.calls.proofs.Sides.{write-level, expand-level, compares-level, control-1-level, control-2-level, controls-level, display-level, late-level, phi1-same, count-same, read-same}
-use Rattle.calls.proofs.Kept.{write-kept, expand-kept, compares-kept, control-1-kept, control-2-kept, controls-kept, display-kept, late-kept}
-use Rattle.artwork.specs.Runs.{Together, Call, done, run, Alike, tick-alike, ticks-alike, write-alike, expand-alike, compares-alike, control-1-alike, control-2-alike, place-controls-alike, place-display-alike, late-alike, Pairwise, none, more, Same, NeverMovesACycle, Answered}
+use Rattle.calls.proofs.Sides.{write-level, expand-level, compares-level, control-1-level, control-2-level, controls-level, late-level, phi1-same, count-same, read-same}
+use Rattle.calls.proofs.Kept.{write-kept, expand-kept, compares-kept, control-1-kept, control-2-kept, controls-kept, late-kept}
+use Rattle.artwork.specs.Runs.{Together, Call, done, run, Alike, tick-alike, ticks-alike, write-alike, expand-alike, compares-alike, control-1-alike, control-2-alike, place-controls-alike, late-alike, Pairwise, none, more, Same, NeverMovesACycle, Answered}
 use Rattle.artwork.proofs.Shared.{control-1-same, control-2-same}
 
 level : {a b : Chip} → Together a b → Level a b
@@ -67,9 +67,6 @@ one (control-2-alike {v} {w} csel) a b t =
     same (record { refused = refl; chip = control-2-level (level t) v w csel }) (control-2-kept a v (t .left)) (control-2-kept b w (t .right))
 one (place-controls-alike {c} {d} {x} {y} line den rsel yscroll csel) a b t =
     same (controls-level (level t) c d x y line den rsel yscroll csel) (controls-kept a c x line (t .left)) (controls-kept b d y line (t .right))
-one (place-display-alike {m} {n} {s} {u} display transition access p q) a b t =
-    same (display-level (level t) display transition access m n s u p q) (display-kept a display transition access m s (t .left))
-    (display-kept b display transition access n u (t .right))
 one (late-alike {v} {w}) a b t = same (late-level (level t) v w (t .left) (t .right)) (late-kept a v (t .left)) (late-kept b w (t .right))
 
 each : {xs ys : List Call} → Pairwise Alike xs ys → (a b : Chip) → Together a b → Pairwise Same (run xs a) (run ys b)

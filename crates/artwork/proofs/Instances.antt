@@ -23,7 +23,7 @@ use Rattle.chip.specs.Chip.{powered}
 use Rattle.chip.specs.Accept.{clockFine}
 use Rattle.calls.specs.Calls.{registerRead}
 use Rattle.chip.proofs.Fine.{powered-accepted, fine-accepted}
-use Rattle.artwork.specs.Runs.{Together, Call, tick, ticks, write, expand, compares, place-controls, place-display, late, run, timingWrite, Alike, tick-alike, ticks-alike, write-alike, expand-alike, compares-alike, place-controls-alike, place-display-alike, late-alike, Pairwise, none, more}
+use Rattle.artwork.specs.Runs.{Together, Call, tick, ticks, write, expand, compares, place-controls, late, run, timingWrite, Alike, tick-alike, ticks-alike, write-alike, expand-alike, compares-alike, place-controls-alike, late-alike, Pairwise, none, more}
 use Rattle.artwork.proofs.Artwork.{artwork-never-moves-a-cycle, charted}
 
 -- memory of one byte, and a bank
@@ -79,13 +79,13 @@ pub plain : ℕ → List Call
 plain n =
     place-controls 0x1B 0x08 100 ∷ compares ∷ write 0x01 50 ∷ write 0x15 1 ∷ write 0x1A 1 ∷ expand 1
     ∷ write 0x00 0 ∷ write 0x10 0 ∷ write 0x18 0 ∷ write 0x1B 0 ∷ write 0x1C 0 ∷ write 0x1D 0 ∷ write 0x20 0 ∷ write 0x21 0 ∷ write 0x25 0 ∷ write 0x27 0
-    ∷ place-display true false false false (pos 0) ∷ ticks (filled 0 0) n ∷ late 0 ∷ tick (filled 0 0) ∷ []
+    ∷ ticks (filled 0 0) n ∷ late 0 ∷ tick (filled 0 0) ∷ []
 
 pub other : ℕ → List Call
 other n =
     place-controls 0xFB 0xFF 100 ∷ compares ∷ write 0x01 50 ∷ write 0x15 1 ∷ write 0x1A 1 ∷ expand 1
     ∷ write 0x00 255 ∷ write 0x10 255 ∷ write 0x18 255 ∷ write 0x1B 255 ∷ write 0x1C 255 ∷ write 0x1D 255 ∷ write 0x20 255 ∷ write 0x21 255 ∷ write 0x25 255 ∷ write 0x27 255
-    ∷ place-display true false false true (pos 2) ∷ ticks (filled 255 3) n ∷ late 255 ∷ tick (filled 255 3) ∷ []
+    ∷ ticks (filled 255 3) n ∷ late 255 ∷ tick (filled 255 3) ∷ []
 
 -- two bytes that a picture register takes
 drawn : (addr : ℕ) → timingWrite (addr % 64) ≡ false → Alike (write addr 0) (write addr 255)
@@ -114,10 +114,9 @@ alike n =
     (more (drawn 0x21 refl)
     (more (drawn 0x25 refl)
     (more (drawn 0x27 refl)
-    (more (place-display-alike true false false refl refl)
     (more (ticks-alike n (filled-low 0) (filled-high 255))
     (more late-alike
-    (more (tick-alike (filled-low 0) (filled-high 255)) none)))))))))))))))))))
+    (more (tick-alike (filled-low 0) (filled-high 255)) none))))))))))))))))))
 
 -- BA and AEC, as arbitration left them
 abbrev lines : ℕ → Side → Bool × Bool

@@ -3,3 +3,4 @@ pub mod Artwork
 pub mod Instances
 pub mod Modes
 pub mod Needed
+pub mod Numbers

@@ -33,9 +33,9 @@ use Rattle.chip.specs.declared.Answer.{Answer}
 use Rattle.registers.specs.Control.{timed}
 use Rattle.chip.specs.Accept.{accepted, aecFine, clockFine, placeFine}
 use Rattle.sequencer.specs.Tick.{tickable}
-use Rattle.calls.specs.Calls.{fileWritten, registerWritten, expandAt, controlStored, control1Written, control2Written, controlsPlaced, displayPlaced}
+use Rattle.calls.specs.Calls.{fileWritten, registerWritten, expandAt, controlStored, control1Written, control2Written, controlsPlaced}
 use Rattle.sequencer.proofs.Sides.{tick-taken, tick-side, tick-bank, tick-unknown, tick-unaccepted}
-use Rattle.artwork.specs.Runs.{Call, tick, write, expand, control-1, control-2, place-controls, place-display, done}
+use Rattle.artwork.specs.Runs.{Call, tick, write, expand, control-1, control-2, place-controls, done}
 use Rattle.artwork.proofs.Instances.{filled, filled-low, filled-high, filled-above}
 
 -- after this cycle of this line: DEN latched, both borders open, no sprite busy; sprite 0 enabled at line 100
@@ -125,11 +125,9 @@ pub record Refused : Type 0 where
   -- the kind of a chip
   pub known-1 : done (tick (filled 0 0)) (chipMade 1 (pos 0) 11 100) .refused ≡ 0
   pub unknown-2 : done (tick (filled 0 0)) (chipMade 2 (pos 0) 11 100) .refused ≡ 12
-  -- the forced clock, of a chip and of a call
+  -- the forced clock of a chip
   pub accepted-0 : done (tick (filled 0 0)) (chipForced (pos 0) 11 100) .refused ≡ 0
   pub accepted-below : done (tick (filled 0 0)) (chipForced (negsuc 0) 11 100) .refused ≡ 3
-  pub forced-0 : done (place-display false false false false (pos 0)) (chipAt 11 100) .refused ≡ 0
-  pub forced-below : done (place-display false false false false (negsuc 0)) (chipAt 11 100) .refused ≡ 6
 
 seen : {A : Type 0} (see : Side → A) (h : Host) (x : Call) (c : Chip) → lentRefusal h ≡ 0 → accepted (done x c .chip) ≡ true → tickable (done x c .chip .side .bus .clock) ≡ true
     → see (after h x c) ≡ see (turned (timed (done x c .chip .regs)) (done x c .chip .side) .side)
@@ -173,7 +171,7 @@ needed h l =
     }
 
 pub refused : Refused
-unfolding done known kindOf displayPlaced accepted aecFine clockFine tickable placeFine fineTest vmliLimit pick happens Sprites.allFresh Sprites.fresh Sprites.spriteAt Buses.fresh Beams.fresh Frames.fresh Rows.fresh
+unfolding done known kindOf accepted aecFine clockFine tickable placeFine fineTest vmliLimit pick happens Sprites.allFresh Sprites.fresh Sprites.spriteAt Buses.fresh Beams.fresh Frames.fresh Rows.fresh
 refused =
     record {
       bank-3 = ap number (tick-taken (filled 0 3) (chipAt 11 100) (filled-high 0) refl refl);
@@ -182,8 +180,6 @@ refused =
       unknown-2 = ap number (tick-unknown (filled 0 0) (chipMade 2 (pos 0) 11 100) (filled-low 0) refl);
       accepted-0 = ap number (tick-taken (filled 0 0) (chipAt 11 100) (filled-low 0) refl refl);
       accepted-below = ap number (tick-unaccepted (filled 0 0) (chipForced (negsuc 0) 11 100) (filled-low 0) refl refl);
-      forced-0 = refl;
-      forced-below = refl;
     }
   where
     number : Answer → ℕ

@@ -4,7 +4,6 @@ use mathlib.Core.Path.{_≡_}
 use mathlib.Core.Bool.{Bool, true, false, _&&_, _||_}
 use mathlib.Core.List.{List, [], _∷_}
 use lib.Dec.{eqb, ltb}
-use lib.IntN.{ℤ}
 use Rattle.laws.specs.Bits.{hasBit}
 use Rattle.memory.specs.Lent.{Host, lentRefusal}
 use Rattle.registers.specs.Control.{RST8, DEN, RSEL, YSCROLL, CSEL, timed}
@@ -12,9 +11,9 @@ use Rattle.registers.specs.Registers.{one-of, between}
 use Rattle.chip.specs.declared.Chip.{Chip}
 use Rattle.chip.specs.declared.Answer.{Answer}
 use Rattle.chip.specs.Chip.{answer}
-use Rattle.chip.specs.Accept.{accepted, clockFine}
+use Rattle.chip.specs.Accept.{accepted}
 use Rattle.sequencer.specs.Tick.{ticked, ticksFrom}
-use Rattle.calls.specs.Calls.{registerRead, registerWritten, expandAt, comparesBy, control1Written, control2Written, controlsPlaced, displayPlaced, lateTaken, phi1, dmaCount}
+use Rattle.calls.specs.Calls.{registerRead, registerWritten, expandAt, comparesBy, control1Written, control2Written, controlsPlaced, lateTaken, phi1, dmaCount}
 
 -- 01, Timing side and picture side: the timing side is the chip's field `side`, whole, the interrupt and the pending place with it;
 -- 02 (iv): the kind is in its beam, so that two runs share it.
@@ -36,7 +35,6 @@ pub data Call : Type 0 where
   control-1 : ℕ → Call
   control-2 : ℕ → Call
   place-controls : ℕ → ℕ → ℕ → Call
-  place-display : Bool → Bool → Bool → Bool → ℤ → Call
   late : ℕ → Call
 
 -- demand 2's own definitions
@@ -49,7 +47,6 @@ done compares c = answer 0 (comparesBy c)
 done (control-1 v) c = answer 0 (control1Written c v)
 done (control-2 v) c = answer 0 (control2Written c v)
 done (place-controls ctrl1 ctrl2 line) c = controlsPlaced c ctrl1 ctrl2 line
-done (place-display display transition access changing forced) c = displayPlaced c display transition access changing forced
 done (late byte) c = lateTaken c byte
 
 -- a run: the answer to each call, the next one made on the chip that it hands back
@@ -76,9 +73,6 @@ pub data Alike : Call → Call → Type 0 where
   -- ECM, BMM and bit 7 of ctrl1 and all of ctrl2 but CSEL are free
   place-controls-alike : {c d x y : ℕ} (line : ℕ) → DEN c ≡ DEN d → RSEL c ≡ RSEL d → YSCROLL c ≡ YSCROLL d → CSEL x ≡ CSEL y
       → Alike (place-controls c x line) (place-controls d y line)
-  -- the mode-changing flag and the forced clock are free
-  place-display-alike : {m n : Bool} {s u : ℤ} (display transition access : Bool) → clockFine s ≡ true → clockFine u ≡ true
-      → Alike (place-display display transition access m s) (place-display display transition access n u)
   -- any two bytes on the CPU's bus
   late-alike : {v w : ℕ} → Alike (late v) (late w)
 

@@ -1,5 +1,5 @@
 // Answers what a case of `replay` has no room for, so that `oracle/compare` can compare that with the original too.
-// In: the three memories, then questions to the end of the input, each a kind and twelve bytes a to l; a scene follows
+// In: the three memories, then questions to the end of the input, each a kind and six bytes a to f; a scene follows
 // from kind 5 on. Two bytes that make a number have the low one first. What is asked, and the bytes that come out:
 //   0  the chip at power-up, of kind a                                    a scene
 //   1  the mask of the cycle ab, of kind c                                the library's, the front end's, the front end's without a kind
@@ -8,7 +8,6 @@
 //   4  the block of pointer a in bank b, RAM of cd bytes, ROM of ef       the refusal, the block's length, the block
 //   5  register write: address ab, value c                                the scene afterwards
 //   6  register read: address ab, light pen bytes c and d                 the byte
-//   7  place display: a, b, c and d mod 2, forced clock e to l            the refusal, the scene afterwards
 ghost use mathlib.Core.Path.{_≡_};
 ghost use lib.ListN.{length};
 use chip::Chip;
@@ -17,23 +16,6 @@ use libc::STDOUT_FILENO;
 
 fn word(low: u8, high: u8) -> u16 {
     low as u16 + high as u16 * 256
-}
-
-fn long(a: u8, b: u8, c: u8, d: u8) -> u32 {
-    a as u32 + b as u32 * 256 + c as u32 * 65536 + d as u32 * 16777216
-}
-
-// 64 bits as a clock, in two's complement. A cast keeps the number, so one below zero goes by its complement.
-fn clock(low: u32, high: u32) -> i64 {
-    let b = low as u64 + high as u64 * 4294967296;
-    if b < 9223372036854775808 {
-        return b as i64;
-    }
-    !(!b as i64)
-}
-
-fn odd(b: u8) -> bool {
-    b % 2 == 1
 }
 
 // A scene to the output; false where that fails.
@@ -99,34 +81,13 @@ fn block(memories: &[u8], pointer: u8, bank: u8, n: usize, m: usize) -> bool
     shown(&memories[0..n], &memories[16384..16384 + m], pointer, bank)
 }
 
-fn display(chip: Chip, head: [u8; 13]) -> bool {
-    let forced = clock(
-        long(head[5], head[6], head[7], head[8]),
-        long(head[9], head[10], head[11], head[12]),
-    );
-    let answer = calls::place_display(
-        chip,
-        odd(head[1]),
-        odd(head[2]),
-        odd(head[3]),
-        odd(head[4]),
-        forced,
-    );
-    let refused = [answer.refused];
-    if !io::write_all(STDOUT_FILENO, &refused) {
-        return false;
-    }
-    let placed = answer.chip;
-    show(placed)
-}
-
 fn register(chip: Chip, address: u16, x: u8, y: u8) -> bool {
     let byte = [calls::read_register(chip, address, x, y)];
     io::write_all(STDOUT_FILENO, &byte)
 }
 
 // A question of kind 0 to 4; false where the run ends.
-fn plain(head: [u8; 13], memories: &[u8]) -> bool
+fn plain(head: [u8; 7], memories: &[u8]) -> bool
     requires { ⌜ length (now memories) ≡ 21504 ⌝ }
 {
     if head[0] == 0 {
@@ -150,8 +111,8 @@ fn plain(head: [u8; 13], memories: &[u8]) -> bool
     )
 }
 
-// A question of kind 5 to 7, about a scene; false where the run ends.
-fn about(head: [u8; 13]) -> bool {
+// A question of kind 5 or 6, about a scene; false where the run ends.
+fn about(head: [u8; 7]) -> bool {
     let mut body = [0u8; 309];
     let n = io::read_full(STDIN_FILENO, &mut body);
     if n != 309 {
@@ -170,9 +131,6 @@ fn about(head: [u8; 13]) -> bool {
     if head[0] == 6 {
         return register(chip, address, head[3], head[4]);
     }
-    if head[0] == 7 {
-        return display(chip, head);
-    }
     false
 }
 
@@ -180,9 +138,9 @@ fn about(head: [u8; 13]) -> bool {
 fn one(memories: &[u8]) -> bool
     requires { ⌜ length (now memories) ≡ 21504 ⌝ }
 {
-    let mut head = [0u8; 13];
+    let mut head = [0u8; 7];
     let n = io::read_full(STDIN_FILENO, &mut head);
-    if n != 13 {
+    if n != 7 {
         return false;
     }
     if head[0] < 5 {

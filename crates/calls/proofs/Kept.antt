@@ -1,10 +1,9 @@
 -- Each call on an accepted state gives an accepted state. Assumes nothing.
 use Prim.Native.Nat.{ℕ, _<_}
 use mathlib.Core.Path.{_≡_, refl}
-use mathlib.Core.Bool.{Bool, true}
+use mathlib.Core.Bool.{true}
 use borrow.Author.Tests.{ltb-false}
 use lib.Dec.{eqb, ltb}
-use lib.IntN.{ℤ}
 use Rattle.laws.proofs.Choice.{either, by-test}
 use Rattle.registers.proofs.Kept.{compare-kept, line-small}
 use Rattle.schedule.specs.Kind.{kindOf}
@@ -14,9 +13,8 @@ use Rattle.rows.specs.declared.Pending.the-variants.{Nothing, At}
 use Rattle.side.proofs.Kept.{side-same}
 use Rattle.chip.specs.declared.Chip.{Chip}
 use Rattle.chip.specs.declared.Answer.{Answer}
-use Rattle.chip.specs.Accept.{clockFine, accepted, stateRefusal}
-use Rattle.calls.specs.Calls.{fileWritten, isExpand, registerWritten, expandAt, comparesBy, controlStored, control1Written, control2Written, controlsPlaced, displayPlaced, lateAt, lateTaken}
-use Rattle.chip.proofs.Accepted.{clock-fine-range}
+use Rattle.chip.specs.Accept.{accepted, stateRefusal}
+use Rattle.calls.specs.Calls.{fileWritten, isExpand, registerWritten, expandAt, comparesBy, controlStored, control1Written, control2Written, controlsPlaced, lateAt, lateTaken}
 use Rattle.chip.proofs.Fine.{accepted-fine, fine-accepted}
 
 module _ (c : Chip) where
@@ -78,18 +76,6 @@ module _ (c : Chip) where
       let f = accepted-fine c e in
       by-test (λ (a : Answer). accepted (a .chip) ≡ true) (ltb 511 compare) (λ t. e)
       (λ t. fine-accepted _ (record { side = f .side; compare = ltb-false 511 compare t; forced = f .forced }))
-
-  pub display-kept : (display transition access changing : Bool) (forced : ℤ) → accepted c ≡ true → accepted (displayPlaced c display transition access changing forced .chip) ≡ true
-  unfolding displayPlaced
-  display-kept display transition access changing forced e =
-      let f = accepted-fine c e in
-      by-test (λ (a : Answer). accepted (a .chip) ≡ true) (clockFine forced)
-      (λ t. fine-accepted _ (record {
-        side = side-same refl refl refl refl refl refl (f .side .sprites) (f .side .place) (f .side);
-        compare = f .compare;
-        forced = clock-fine-range forced t;
-      }))
-      (λ t. e)
 
   late-at-kept : (byte : ℕ) (p : Pending) → accepted c ≡ true → accepted (lateAt c byte p) ≡ true
   late-at-kept byte Nothing e = e

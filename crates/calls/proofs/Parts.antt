@@ -1,35 +1,18 @@
 -- What a call puts together is the definition's state: over variables, since `simp` on the code's own terms is too much. Assumes nothing.
 use Prim.Native.Nat.{ℕ, _<_}
 use mathlib.Core.Path.{_≡_, sym, _∙_}
-use mathlib.Core.Bool.{Bool, true, false, not}
-use lib.IntN.{ℤ}
-use borrow.Author.Tests.{not-true, not-false, ne-eqb}
+use mathlib.Core.Bool.{not}
+use borrow.Author.Tests.{ne-eqb}
 use Rattle.rows.specs.declared.Pending.the-variants.{Nothing, At}
 use Rattle.rows.specs.Pending.{Pends}
-use Rattle.side.specs.Set.{rows≔}
-use Rattle.rows.specs.Set.{display≔, transition≔, access≔}
-use Rattle.picture.specs.Set.{changing≔, forced≔}
 use Rattle.chip.specs.declared.Chip.{Chip}
-use Rattle.chip.specs.Set.{side≔, picture≔, pen≔}
-use Rattle.chip.specs.Accept.{clockFine, stateRefusal}
+use Rattle.chip.specs.Accept.{stateRefusal}
 use Rattle.chip.specs.Chip.{answer}
-use Rattle.calls.specs.Calls.{displayPlaced, lateAt, lateTaken}
+use Rattle.calls.specs.Calls.{lateAt, lateTaken}
 use Rattle.chip.proofs.Fine.{taken-accepted}
 use Rattle.chip.proofs.Accepted.{accepted-place, place-fine-pends}
 
 module _ (c : Chip) where
-  -- a forced clock out of range, and one in range
-  module _ (display transition access changing : Bool) (z : ℤ) {fine : Bool} (e : fine ≡ clockFine z) where
-    pub not-placed : not fine ≡ true → answer 6 c ≡ displayPlaced c display transition access changing z
-    unfolding displayPlaced
-    not-placed t = simp (sym e ∙ not-true fine t)
-
-    pub placed : {forced : ℤ} → not fine ≡ false → forced ≡ z
-        → answer 0 (side≔ (rows≔ (display≔ display (transition≔ transition (access≔ access (c .side .rows)))) (c .side)) (picture≔ (pen≔ (changing≔ changing (forced≔ forced (c .picture .pen))) (c .picture)) c))
-        ≡ displayPlaced c display transition access changing z
-    unfolding displayPlaced
-    placed t forced = rw forced (simp (sym e ∙ not-false fine t))
-
   -- a byte for a state that is not taken, for no place, and for one
   module _ (byte : ℕ) {state : ℕ} (e : state ≡ stateRefusal c) where
     pub not-late : (state ≡ 0 → ⊥) → answer state c ≡ lateTaken c byte

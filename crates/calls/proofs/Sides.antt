@@ -3,7 +3,6 @@ use Prim.Native.Nat.{ℕ, _%_}
 use mathlib.Core.Path.{_≡_, refl, ap, subst, _∙_}
 use mathlib.Core.Bool.{Bool, true, false, _||_, cond}
 use lib.Dec.{ltb}
-use lib.IntN.{ℤ}
 use Rattle.registers.specs.declared.Irq.{Irq}
 use Rattle.registers.specs.Control.{RST8, DEN, RSEL, YSCROLL, CSEL, timed}
 use Rattle.registers.specs.Registers.{written, lineBy}
@@ -16,14 +15,13 @@ use Rattle.rows.specs.declared.Pending.{Pending}
 use Rattle.rows.specs.declared.Pending.the-variants.{Nothing, At}
 use Rattle.rows.specs.Pending.{waits}
 use Rattle.side.specs.declared.Side.{Side}
-use Rattle.side.specs.Set.{irq≔, frame≔, border≔, sprites≔, rows≔, pending≔}
-use Rattle.rows.specs.Set.{display≔, transition≔, access≔}
+use Rattle.side.specs.Set.{irq≔, frame≔, border≔, sprites≔, pending≔}
 use Rattle.chip.specs.declared.Chip.{Chip}
 use Rattle.schedule.specs.Kind.{kindOf}
 use Rattle.chip.proofs.Fine.{accepted-taken}
-use Rattle.chip.specs.Accept.{accepted, clockFine}
+use Rattle.chip.specs.Accept.{accepted}
 use Rattle.chip.proofs.Level.{Level, LevelAnswers, picked}
-use Rattle.calls.specs.Calls.{registerRead, fileWritten, isExpand, registerWritten, expandAt, comparesBy, controlStored, control1Written, control2Written, controlsPlaced, displayPlaced, lateAt, lateTaken, phi1, dmaCount}
+use Rattle.calls.specs.Calls.{registerRead, fileWritten, isExpand, registerWritten, expandAt, comparesBy, controlStored, control1Written, control2Written, controlsPlaced, lateAt, lateTaken, phi1, dmaCount}
 
 module _ {a b : Chip} (e : Level a b) where
   file : SameFile (a .regs) (b .regs)
@@ -113,13 +111,6 @@ module _ {a b : Chip} (e : Level a b) where
   controls-level c d x y line den rsel yscroll csel =
       picked LevelAnswers (ltb 511 line) (record { refused = refl; chip = e })
       (record { refused = refl; chip = record { side = e .side; registers = simp (den, rsel, yscroll, csel, file .my, file .enable, file .yexp) } })
-
-  pub display-level : (display transition access m n : Bool) (s t : ℤ) → clockFine s ≡ true → clockFine t ≡ true
-      → LevelAnswers (displayPlaced a display transition access m s) (displayPlaced b display transition access n t)
-  unfolding displayPlaced
-  display-level display transition access m n s t f g =
-      rw (f, g)
-      (record { refused = refl; chip = record { side = ap (λ (s : Side). rows≔ (display≔ display (transition≔ transition (access≔ access (s .rows)))) s) (e .side); registers = e .registers } })
 
   late-at : (v w : ℕ) (p : Pending) → Level (lateAt a v p) (lateAt b w p)
   late-at v w Nothing = e

@@ -2,7 +2,6 @@
 use Prim.Native.Nat.{ℕ, _%_}
 use mathlib.Core.Bool.{Bool, not, _||_, cond}
 use lib.Dec.{eqb, ltb}
-use lib.IntN.{ℤ}
 use lib.ListN.{set}
 use Rattle.registers.specs.declared.Registers.{Registers}
 use Rattle.registers.specs.Control.{RSEL, modeNumber}
@@ -19,13 +18,12 @@ use Rattle.rows.specs.declared.Pending.{Pending}
 use Rattle.rows.specs.declared.Pending.the-variants.{Nothing, At}
 use Rattle.rows.specs.Pending.{waits}
 use Rattle.access.specs.Matrix.{lateWord}
-use Rattle.side.specs.Set.{irq≔, frame≔, border≔, sprites≔, rows≔, pending≔}
-use Rattle.rows.specs.Set.{display≔, transition≔, access≔}
-use Rattle.picture.specs.Set.{changing≔, forced≔}
+use Rattle.side.specs.Set.{irq≔, frame≔, border≔, sprites≔, pending≔}
+use Rattle.picture.specs.Set.{changing≔}
 use Rattle.chip.specs.declared.Chip.{Chip}
 use Rattle.chip.specs.declared.Answer.{Answer}
 use Rattle.chip.specs.Set.{regs≔, side≔, picture≔, matrix≔, pen≔}
-use Rattle.chip.specs.Accept.{stateRefusal, clockFine}
+use Rattle.chip.specs.Accept.{stateRefusal}
 use Rattle.chip.specs.Chip.{answer}
 
 -- Bauer 3.2: the raster that a read shows is the beam's
@@ -79,15 +77,6 @@ control2Written c v = controlStored c (control2Stored (c .regs) v)
 unfoldable pub controlsPlaced : Chip → ℕ → ℕ → ℕ → Answer
 controlsPlaced c ctrl1 ctrl2 compare =
     cond (ltb 511 compare) (answer 5 c) (answer 0 (regs≔ (controlled (c .regs) ctrl1 ctrl2 compare) c))
-
--- 01, Placing calls: display state, transition, character access, mode-changing flag, forced clock only; 6 where that is out of range
-unfoldable pub displayPlaced : Chip → Bool → Bool → Bool → Bool → ℤ → Answer
-displayPlaced c display transition access changing forced =
-    cond (clockFine forced)
-    (answer 0
-    (side≔ (rows≔ (display≔ display (transition≔ transition (access≔ access (c .side .rows)))) (c .side))
-    (picture≔ (pen≔ (changing≔ changing (forced≔ forced (c .picture .pen))) (c .picture)) c)))
-    (answer 6 c)
 
 -- 01, Late byte: it fills a place only if one is pending, and the place is pending no more
 abbrev pub lateAt : Chip → ℕ → Pending → Chip

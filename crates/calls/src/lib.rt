@@ -1,13 +1,10 @@
 // Every public call on a chip but the tick.
 // A call asks nothing of its caller: what it does not take it refuses by number, with the state unchanged.
 ghost use mathlib.Core.Path.{_≡_};
-ghost use mathlib.Core.Bool.{Bool};
 ghost use Prim.Native.Nat.{_<_};
-ghost use lib.IntN.{ℤ};
-ghost use Rattle.calls.specs.Calls.{registerRead, fileWritten, expandAt, registerWritten, comparesBy, controlStored, control1Written, control2Written, controlsPlaced, displayPlaced, lateAt, lateTaken, phi1, dmaCount};
+ghost use Rattle.calls.specs.Calls.{registerRead, fileWritten, expandAt, registerWritten, comparesBy, controlStored, control1Written, control2Written, controlsPlaced, lateAt, lateTaken, phi1, dmaCount};
 use chip::Answer;
 use chip::Chip;
-use picture::Pen;
 use registers::Registers;
 use rows::Pending;
 use rows::Waits;
@@ -137,49 +134,6 @@ pub fn place_controls(mut chip: Chip, ctrl1: u8, ctrl2: u8, compare: u16) -> Ans
     let regs = chip.regs;
     let stored = regs.controls(ctrl1, ctrl2, compare);
     chip.regs = stored;
-    Answer {
-        refused: 0,
-        chip: chip,
-    }
-}
-
-pub fn place_display(
-    mut chip: Chip,
-    display: bool,
-    transition: bool,
-    access: bool,
-    changing: bool,
-    forced: i64,
-) -> Answer
-    ensures { λ r. ⌜ r ≡ displayPlaced chip display transition access changing forced ⌝ }
-{
-    let fine = chip::clock_fine(forced);
-    if !fine {
-        return Answer {
-            refused: 6,
-            chip: chip,
-        };
-    }
-    let mut side = chip.side;
-    let mut picture = chip.picture;
-    let mut rows = side.rows;
-    let pen = picture.pen;
-    rows.display = display;
-    rows.transition = transition;
-    rows.access = access;
-    let placed = Pen {
-        ch: pen.ch,
-        carry: pen.carry,
-        gfx: pen.gfx,
-        mode: pen.mode,
-        old: pen.old,
-        changing: changing,
-        forced: forced,
-    };
-    side.rows = rows;
-    picture.pen = placed;
-    chip.side = side;
-    chip.picture = picture;
     Answer {
         refused: 0,
         chip: chip,

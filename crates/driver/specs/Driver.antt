@@ -81,7 +81,6 @@ eventOf (step.Expand value) = event.Nothing
 eventOf (step.Controls ctrl1 ctrl2 compare) = event.Nothing
 eventOf (step.Late value) = event.Nothing
 eventOf step.Borders = event.Nothing
-eventOf (step.Display shown transition access changing) = event.Nothing
 eventOf (step.Bank bank) = event.Nothing
 eventOf (step.Control1 value) = event.Nothing
 eventOf (step.Control2 value) = event.Nothing

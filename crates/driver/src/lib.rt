@@ -140,7 +140,6 @@ fn event_of(step: Step) -> Event
         Step::Controls(_, _, _) => Event::Nothing,
         Step::Late(_) => Event::Nothing,
         Step::Borders => Event::Nothing,
-        Step::Display(_, _, _, _) => Event::Nothing,
         Step::Bank(_) => Event::Nothing,
         Step::Control1(_) => Event::Nothing,
         Step::Control2(_) => Event::Nothing,

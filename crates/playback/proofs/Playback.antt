@@ -53,7 +53,6 @@ step-within h c (step.Expand value) e = tt
 step-within h c (step.Controls ctrl1 ctrl2 compare) e = tt
 step-within h c (step.Late value) e = tt
 step-within h c step.Borders e = tt
-step-within h c (step.Display shown transition access changing) e = tt
 step-within h c (step.Bank bank) e = tt
 step-within h c (step.Control1 value) e = tt
 step-within h c (step.Control2 value) e = tt

@@ -42,11 +42,7 @@ fn stepped(chip: Chip, memories: &[u8], bank: u8, step: Step) -> Told
     }
 }
 
-fn odd(b: u8) -> bool {
-    b % 2 == 1
-}
-
-// The calls that a run file has too: up to 6 their numbers are its kinds.
+// The calls that a run file has too: up to 5 their numbers are its kinds.
 fn step_of(call: u8, a: u8, b: u8, c: u8, d: u8) -> Step {
     match call {
         0 => Step::Tick,
@@ -56,8 +52,7 @@ fn step_of(call: u8, a: u8, b: u8, c: u8, d: u8) -> Step {
         4 => Step::Late(a),
         5 => Step::Borders,
         10 => Step::Control1(a),
-        11 => Step::Control2(a),
-        _ => Step::Display(odd(a), odd(b), odd(c), odd(d)),
+        _ => Step::Control2(a),
     }
 }
 
@@ -73,7 +68,7 @@ fn dma_count(chip: Chip) -> u16 {
 fn perform(chip: Chip, memories: &[u8], call: u8, bank: u8, a: u8, b: u8, c: u8, d: u8) -> Told
     requires { ⌜ length (now memories) ≡ 21504 ⌝ }
 {
-    if (call < 7) | (call == 10) | (call == 11) {
+    if (call < 6) | (call == 10) | (call == 11) {
         return stepped(chip, memories, bank, step_of(call, a, b, c, d));
     }
     if call == 7 {
@@ -88,9 +83,9 @@ fn perform(chip: Chip, memories: &[u8], call: u8, bank: u8, a: u8, b: u8, c: u8,
     valued(0, chip::power_up(a))
 }
 
-// A run file has the first seven, the questions are the next three, then the two control registers, and power-up.
+// A run file has the first six, 7 to 9 are questions, 10 and 11 the control registers, 12 is power-up; 6 is retired.
 fn is_call(call: u8) -> bool {
-    call <= 12
+    (call <= 12) & (call != 6)
 }
 
 // Writes one answer; false where that fails.

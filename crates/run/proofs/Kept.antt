@@ -7,10 +7,10 @@ use Rattle.memory.specs.Lent.{Host}
 use Rattle.script.specs.declared.Step.{Step}
 use Rattle.script.specs.declared.Step.the-variants as step
 use Rattle.chip.specs.declared.Chip.{Chip}
-use Rattle.chip.specs.Accept.{stateRefusal, clockFine}
+use Rattle.chip.specs.Accept.{stateRefusal}
 use Rattle.chip.specs.Chip.{answer}
 use Rattle.sequencer.specs.Tick.{ticked, tickRefusal}
-use Rattle.calls.specs.Calls.{controlsPlaced, displayPlaced, lateTaken}
+use Rattle.calls.specs.Calls.{controlsPlaced, lateTaken}
 use Rattle.run.specs.Run.{doneOf}
 
 -- a call that takes the chip or hands it back
@@ -23,14 +23,13 @@ or-taken true n x c h = refl
 or-taken false n x c h = absurd (h refl)
 
 pub refused-keeps : (h : Host) (c : Chip) (s : Step) → (doneOf h c s .refused ≡ 0 → ⊥) → (doneOf h c s .chip ≡ c) × (doneOf h c s .bank ≡ h .bank)
-unfolding doneOf ticked controlsPlaced displayPlaced lateTaken
+unfolding doneOf ticked controlsPlaced lateTaken
 refused-keeps h c step.Tick e = (taken-or (eqb (tickRefusal h c) 0) _ _ c e, refl)
 refused-keeps h c (step.Write address value) e = absurd (e refl)
 refused-keeps h c (step.Expand value) e = absurd (e refl)
 refused-keeps h c (step.Controls ctrl1 ctrl2 compare) e = (or-taken (ltb 511 compare) _ _ c e, refl)
 refused-keeps h c (step.Late value) e = (taken-or (eqb (stateRefusal c) 0) _ _ c e, refl)
 refused-keeps h c step.Borders e = absurd (e refl)
-refused-keeps h c (step.Display shown transition access changing) e = (taken-or (clockFine (c .side .bus .clock)) _ _ c e, refl)
 refused-keeps h c (step.Bank bank) e = absurd (e refl)
 refused-keeps h c (step.Control1 value) e = absurd (e refl)
 refused-keeps h c (step.Control2 value) e = absurd (e refl)

@@ -6,7 +6,7 @@ use Rattle.script.specs.declared.Step.the-variants as step
 use Rattle.chip.specs.declared.Chip.{Chip}
 use Rattle.chip.specs.declared.Answer.{Answer}
 use Rattle.sequencer.specs.Tick.{ticked}
-use Rattle.calls.specs.Calls.{registerWritten, expandAt, comparesBy, control1Written, control2Written, controlsPlaced, displayPlaced, lateTaken}
+use Rattle.calls.specs.Calls.{registerWritten, expandAt, comparesBy, control1Written, control2Written, controlsPlaced, lateTaken}
 use Rattle.run.specs.declared.Done.{Done}
 
 -- what a call answers, the bank as it was
@@ -25,9 +25,6 @@ doneOf h c (step.Expand value) = fromChip (expandAt c value) (h .bank)
 doneOf h c (step.Controls ctrl1 ctrl2 compare) = fromAnswer (controlsPlaced c ctrl1 ctrl2 compare) (h .bank)
 doneOf h c (step.Late value) = fromAnswer (lateTaken c value) (h .bank)
 doneOf h c step.Borders = fromChip (comparesBy c) (h .bank)
--- 01, Run file kind 6: forced clock is now
-doneOf h c (step.Display display transition access changing) =
-    fromAnswer (displayPlaced c display transition access changing (c .side .bus .clock)) (h .bank)
 doneOf h c (step.Bank bank) = fromChip c bank
 -- 02 (vi): the writes with their effects
 doneOf h c (step.Control1 value) = fromChip (control1Written c value) (h .bank)

@@ -2,7 +2,6 @@
 ghost use mathlib.Core.Path.{_≡_};
 ghost use Rattle.memory.specs.Lent.{host};
 ghost use Rattle.run.specs.Run.{fromAnswer, fromChip, doneOf};
-ghost use Rattle.calls.specs.Calls.{displayPlaced};
 use chip::Answer;
 use chip::Chip;
 use script::Step;
@@ -37,23 +36,6 @@ fn from_chip(chip: Chip, bank: u8) -> Done
     }
 }
 
-// The display states as they are given, the mode forced now.
-fn display(
-    chip: Chip,
-    shown: bool,
-    transition: bool,
-    access: bool,
-    changing: bool,
-    bank: u8,
-) -> Done
-    ensures { λ r. ⌜ r ≡ fromAnswer (displayPlaced chip shown transition access changing (chip .side .bus .clock)) bank ⌝ }
-{
-    let side = chip.side;
-    let bus = side.bus;
-    let answer = calls::place_display(chip, shown, transition, access, changing, bus.clock);
-    from_answer(answer, bank)
-}
-
 // One step of a run file on a chip, with the memory that the host lends.
 pub fn step(chip: Chip, bank: u8, step: Step, ram: &[u8], rom: &[u8], colour: &[u8]) -> Done
     ensures { λ r. ⌜ r ≡ doneOf (host (now (ram .entry)) (now (rom .entry)) (now (colour .entry)) bank) chip step ⌝ }
@@ -71,14 +53,6 @@ pub fn step(chip: Chip, bank: u8, step: Step, ram: &[u8], rom: &[u8], colour: &[
         ),
         Step::Late(value) => from_answer(calls::late_byte(chip, value), bank),
         Step::Borders => from_chip(calls::border_compares(chip), bank),
-        Step::Display(shown, transition, access, changing) => display(
-            chip,
-            shown,
-            transition,
-            access,
-            changing,
-            bank,
-        ),
         Step::Bank(next) => from_chip(chip, next),
         Step::Control1(value) => from_chip(calls::write_control_1(chip, value), bank),
         Step::Control2(value) => from_chip(calls::write_control_2(chip, value), bank),

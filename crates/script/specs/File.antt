@@ -1,5 +1,5 @@
 -- What a run file says: its sections in their order.
-use Prim.Native.Nat.{ℕ, zero, suc}
+use Prim.Native.Nat.{ℕ, zero, suc, _+_}
 use mathlib.Core.Bool.{cond}
 use mathlib.Core.List.{List, [], _∷_}
 use lib.Dec.{leb, ltb}
@@ -99,3 +99,16 @@ script s = afterCount item.Steps (λ n. steps n (drop 2 s)) (countOf 65535 s)
 -- 01, Run file: what a run file says, in the fixed order of its sections
 unfoldable pub runOf : List ℕ → List Item
 runOf = section part.Ram (section part.Rom (section part.Colour script))
+
+-- 01, Run file: the bytes of an item, and the place after some
+unfoldable pub roomOf : Item → ℕ
+roomOf (item.Changes memory n) = 2
+roomOf (item.Change memory address value) = 3
+roomOf (item.Steps n) = 2
+roomOf (item.Do step) = 5
+roomOf item.Done = 0
+roomOf (item.Refused number) = 0
+
+unfoldable pub placeAfter : List Item → ℕ
+placeAfter [] = 0
+placeAfter (i ∷ more) = roomOf i + placeAfter more

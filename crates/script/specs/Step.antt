@@ -7,7 +7,7 @@ use lib.Dec.{eqb, leb, ltb}
 use lib.ListN.{length, getD}
 use Rattle.laws.specs.Bytes.{lowByte, highByte, word}
 use Rattle.script.specs.declared.Step.{Step}
-use Rattle.script.specs.declared.Step.the-variants.{Tick, Write, Expand, Controls, Late, Borders, Display, Bank, Control1, Control2}
+use Rattle.script.specs.declared.Step.the-variants.{Tick, Write, Expand, Controls, Late, Borders, Bank, Control1, Control2}
 use Rattle.script.specs.declared.Read.{Read}
 use Rattle.script.specs.declared.Read.the-variants.{Got, Refused}
 
@@ -15,7 +15,7 @@ use Rattle.script.specs.declared.Read.the-variants.{Got, Refused}
 unfoldable pub allowedIf : Bool → Step → Read
 allowedIf fine step = cond fine (Got step) (Refused 8)
 
--- 01, Run file; DECISIONS 33: the kinds with their fields. 02 (vi): kinds 8 and 9. Unused bytes are 0; a kind above 9 is not allowed
+-- 01, Run file; DECISIONS 33: the kinds with their fields. 02 (vi): kinds 8 and 9; 02 (vii): kind 6 is retired, before its fields are judged. Unused bytes are 0; a kind above 9 is not allowed
 unfoldable pub stepDecoded : ℕ → ℕ → ℕ → ℕ → ℕ → Read
 stepDecoded kind a b c d =
     cond (eqb kind 0) (allowedIf (eqb a 0 && eqb b 0 && eqb c 0 && eqb d 0) Tick)
@@ -24,7 +24,7 @@ stepDecoded kind a b c d =
     (cond (eqb kind 3) (allowedIf (leb (word c d) 511) (Controls a b (word c d)))
     (cond (eqb kind 4) (allowedIf (eqb b 0 && eqb c 0 && eqb d 0) (Late a))
     (cond (eqb kind 5) (allowedIf (eqb a 0 && eqb b 0 && eqb c 0 && eqb d 0) Borders)
-    (cond (eqb kind 6) (allowedIf (leb a 1 && leb b 1 && leb c 1 && leb d 1) (Display (eqb a 1) (eqb b 1) (eqb c 1) (eqb d 1)))
+    (cond (eqb kind 6) (Refused 10)
     (cond (eqb kind 7) (allowedIf (leb a 3 && eqb b 0 && eqb c 0 && eqb d 0) (Bank a))
     (cond (eqb kind 8) (allowedIf (eqb b 0 && eqb c 0 && eqb d 0) (Control1 a))
     (cond (eqb kind 9) (allowedIf (eqb b 0 && eqb c 0 && eqb d 0) (Control2 a))
@@ -36,10 +36,6 @@ stepOf s =
     cond (ltb (length s) 5) (Refused 7)
     (stepDecoded (getD s 0 0) (getD s 1 0) (getD s 2 0) (getD s 3 0) (getD s 4 0))
 
--- 01, Run file: 0 is Idle, Stable, off, clear
-abbrev pub byteOf : Bool → ℕ
-byteOf flag = cond flag 1 0
-
 -- 01, Run file: a step written down
 unfoldable pub bytesOf : Step → List ℕ
 bytesOf Tick = 0 ∷ 0 ∷ 0 ∷ 0 ∷ 0 ∷ []
@@ -48,7 +44,6 @@ bytesOf (Expand value) = 2 ∷ value ∷ 0 ∷ 0 ∷ 0 ∷ []
 bytesOf (Controls ctrl1 ctrl2 compare) = 3 ∷ ctrl1 ∷ ctrl2 ∷ lowByte compare ∷ highByte compare ∷ []
 bytesOf (Late value) = 4 ∷ value ∷ 0 ∷ 0 ∷ 0 ∷ []
 bytesOf Borders = 5 ∷ 0 ∷ 0 ∷ 0 ∷ 0 ∷ []
-bytesOf (Display shown pending access mode) = 6 ∷ byteOf shown ∷ byteOf pending ∷ byteOf access ∷ byteOf mode ∷ []
 bytesOf (Bank bank) = 7 ∷ bank ∷ 0 ∷ 0 ∷ 0 ∷ []
 bytesOf (Control1 value) = 8 ∷ value ∷ 0 ∷ 0 ∷ 0 ∷ []
 bytesOf (Control2 value) = 9 ∷ value ∷ 0 ∷ 0 ∷ 0 ∷ []
@@ -61,7 +56,6 @@ allowed (Expand value) = true
 allowed (Controls ctrl1 ctrl2 compare) = leb compare 511
 allowed (Late value) = true
 allowed Borders = true
-allowed (Display shown pending access mode) = true
 allowed (Bank bank) = leb bank 3
 allowed (Control1 value) = true
 allowed (Control2 value) = true

@@ -4,7 +4,7 @@ ghost use mathlib.Core.Bool.{Bool};
 ghost use Prim.Native.Nat.{_-_, _≤_, _<_};
 ghost use lib.ListN.{length, drop};
 ghost use Rattle.laws.specs.Bytes.{word};
-ghost use Rattle.script.specs.Step.{allowedIf, stepDecoded, stepOf, byteOf, bytesOf};
+ghost use Rattle.script.specs.Step.{allowedIf, stepDecoded, stepOf, bytesOf};
 ghost use Rattle.script.specs.File.{sizeOf, countOf, changeOf, endOf};
 ghost use Rattle.script.specs.Machinery.Cursor.{stepFrom, atStep, changesBegun, stepsBegun, changed, stepRead, begun, recorded, startOf, nextOf};
 ghost use Rattle.script.specs.Machinery.Block.{blockSteps, blockLen, blockFrom};
@@ -17,7 +17,6 @@ pub enum Step {
     Controls(u8, u8, u16),
     Late(u8),
     Borders,
-    Display(bool, bool, bool, bool),
     Bank(u8),
     Control1(u8),
     Control2(u8),
@@ -101,7 +100,7 @@ fn allowed_if(fine: bool, step: Step) -> Read
     Read::Refused(8)
 }
 
-// The five bytes of a step, judged by the kind.
+// The five bytes of a step, judged by the kind; a retired kind whatever its fields.
 fn decode(kind: u8, a: u8, b: u8, c: u8, d: u8) -> Read
     ensures { λ r. ⌜ r ≡ stepDecoded kind a b c d ⌝ }
 {
@@ -112,10 +111,7 @@ fn decode(kind: u8, a: u8, b: u8, c: u8, d: u8) -> Read
         3 => allowed_if(word(c, d) <= 511, Step::Controls(a, b, word(c, d))),
         4 => allowed_if((b == 0) & (c == 0) & (d == 0), Step::Late(a)),
         5 => allowed_if((a == 0) & (b == 0) & (c == 0) & (d == 0), Step::Borders),
-        6 => allowed_if(
-            (a <= 1) & (b <= 1) & (c <= 1) & (d <= 1),
-            Step::Display(a == 1, b == 1, c == 1, d == 1),
-        ),
+        6 => Read::Refused(10),
         7 => allowed_if((a <= 3) & (b == 0) & (c == 0) & (d == 0), Step::Bank(a)),
         8 => allowed_if((b == 0) & (c == 0) & (d == 0), Step::Control1(a)),
         9 => allowed_if((b == 0) & (c == 0) & (d == 0), Step::Control2(a)),
@@ -131,15 +127,6 @@ pub fn step_of(s: &[u8], at: usize) -> Read
         return Read::Refused(7);
     }
     decode(s[at], s[at + 1], s[at + 2], s[at + 3], s[at + 4])
-}
-
-fn byte_of(flag: bool) -> u8
-    ensures { λ r. ⌜ r ≡ byteOf flag ⌝ }
-{
-    if flag {
-        return 1;
-    }
-    0
 }
 
 // The five bytes of a step.
@@ -159,13 +146,6 @@ pub fn bytes_of(step: Step) -> [u8; 5]
         ],
         Step::Late(value) => [4, value, 0, 0, 0],
         Step::Borders => [5, 0, 0, 0, 0],
-        Step::Display(shown, pending, access, mode) => [
-            6,
-            byte_of(shown),
-            byte_of(pending),
-            byte_of(access),
-            byte_of(mode),
-        ],
         Step::Bank(bank) => [7, bank, 0, 0, 0],
         Step::Control1(value) => [8, value, 0, 0, 0],
         Step::Control2(value) => [9, value, 0, 0, 0],

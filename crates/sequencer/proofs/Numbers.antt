@@ -23,7 +23,7 @@ use Rattle.sequencer.proofs.Runs.{state-first}
 abbrev AtMost : ℕ → ℕ → Type 0
 AtMost m n = n ≤ m
 
-lent-few : (h : Host) → lentRefusal h ≤ 2
+pub lent-few : (h : Host) → lentRefusal h ≤ 2
 unfolding lentRefusal blockRefusal
 lent-few h =
     either (AtMost 2) (eqb (length (h .colour)) 1024)

@@ -4,3 +4,4 @@ pub mod Loop
 pub mod Lent
 pub mod Blocks
 pub mod Ends
+pub mod Retired

@@ -1,7 +1,7 @@
 -- The chart of a whole run file: what each of its items says, one after the other; and what the run leaves.
 use Prim.Native.Nat.{ℕ, zero, suc, _+_}
 use mathlib.Core.Path.{_≡_}
-use mathlib.Core.Bool.{cond}
+use mathlib.Core.Bool.{Bool, cond}
 use mathlib.Core.List.{List, [], _∷_, _++_}
 use lib.Dec.{leb}
 use lib.ListN.{length, take}
@@ -9,6 +9,7 @@ use Rattle.script.specs.declared.Item.{Item}
 use Rattle.script.specs.File.{runOf}
 use Rattle.sheet.specs.declared.Run.{Run}
 use Rattle.driver.specs.Driver.{Store, storeAt}
+use Rattle.line.specs.Text.{refusedOf}
 use Rattle.sheet.specs.Sheet.{begunOf, saidAt, runAt, runIn, storeIn}
 use Rattle.sheet.specs.Machinery.Fill.{emptied}
 
@@ -47,3 +48,12 @@ endedOf kind m s = ended (length s + 1) s m (begunOf kind)
 pub record Ends (chart out : List ℕ) (at : ℕ) : Type 0 where
   pub earlier : List ℕ
   pub last : earlier ++ take at out ≡ chart
+
+-- 02 (vii): two charts are the same up to a refusal, which the one tells by one number and the other by another, after the same steps done;
+-- a run that a step before it has ended does not come to it
+pub record SameUpTo (one other : ℕ) (chart cut : List ℕ) : Type 0 where
+  pub text : List ℕ
+  pub reached : Bool
+  pub done : ℕ
+  pub here : chart ≡ text ++ cond reached (refusedOf one done) []
+  pub there : cut ≡ text ++ cond reached (refusedOf other done) []

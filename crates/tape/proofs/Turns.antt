@@ -50,7 +50,6 @@ step-over (step.Expand value) go = tt
 step-over (step.Controls ctrl1 ctrl2 compare) go = tt
 step-over (step.Late value) go = tt
 step-over step.Borders go = tt
-step-over (step.Display shown transition access changing) go = tt
 step-over (step.Bank bank) go = tt
 step-over (step.Control1 value) go = tt
 step-over (step.Control2 value) go = tt

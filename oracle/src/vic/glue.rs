@@ -3,8 +3,8 @@
 use super::constants::IRQ_RASTER;
 use super::fsm::{CharacterAccessState, DisplayState, DisplayTransition, GraphicsMode};
 use super::state::VicII;
-use crate::accept::{clock_in_range, takes, CLOCK_LIMIT};
-use crate::chip::{Chip, Refusal, BANK_ABOVE_3, CLOCK_AT_END, COMPARE_ABOVE_511, FORCED_CLOCK_OUT_OF_RANGE};
+use crate::accept::{takes, CLOCK_LIMIT};
+use crate::chip::{Chip, Refusal, BANK_ABOVE_3, CLOCK_AT_END, COMPARE_ABOVE_511};
 use crate::clockchip::signals::LineLevel;
 use crate::kind::MOS6569;
 use crate::late::{comes_late, Met};
@@ -242,18 +242,6 @@ impl Chip for Machine {
 
     fn border_compares(&mut self) {
         self.chip.border.recompute_compare(self.chip.regs.rsel());
-    }
-
-    fn place_display(&mut self, [displaying, entering, accessing, mode_changing]: [bool; 4], forced: i64) -> Result<(), Refusal> {
-        if !clock_in_range(forced) {
-            return Err(FORCED_CLOCK_OUT_OF_RANGE);
-        }
-        self.chip.display_state = display(displaying);
-        self.chip.display_transition = transition(entering);
-        self.chip.character_access_state = access(accessing);
-        self.chip.mode_changing = mode_changing;
-        self.chip.forced_badline_c_access_clock = forced;
-        Ok(())
     }
 
     fn read(&self, address: u16, light_pen_x: u8, light_pen_y: u8) -> u8 {

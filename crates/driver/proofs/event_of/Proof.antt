@@ -30,9 +30,6 @@ enum-told-8 c = search needs
 enum-told-9 : tie.Need-enum-told-9
 enum-told-9 c = search needs
 
-enum-told-10 : tie.Need-enum-told-10
-enum-told-10 c = search needs
-
 returns : tie.Need-returns
 unfolding eventOf
 returns c = simp (c .enum-told .given .1)
@@ -69,10 +66,6 @@ returns-9 : tie.Need-returns-9
 unfolding eventOf
 returns-9 c = simp (c .enum-told9 .given .1)
 
-returns-10 : tie.Need-returns-10
-unfolding eventOf
-returns-10 c = simp (c .enum-told10 .given .1)
-
 pub event-of-spec : {M : Type 1} → statement M
 event-of-spec =
     tie.close
@@ -86,7 +79,6 @@ event-of-spec =
     enum-told-7
     enum-told-8
     enum-told-9
-    enum-told-10
     returns
     returns-2
     returns-3
@@ -95,5 +87,4 @@ event-of-spec =
     returns-6
     returns-7
     returns-8
-    returns-9
-    returns-10)
+    returns-9)

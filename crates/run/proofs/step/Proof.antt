@@ -63,9 +63,6 @@ from-chip-requires-3 c κs = search needs
 enum-known-step-5 : tie.Need-enum-known-step-5
 enum-known-step-5 c = search needs
 
-display-requires : tie.Need-display-requires
-display-requires c κs = search needs
-
 enum-known-step-6 : tie.Need-enum-known-step-6
 enum-known-step-6 c = search needs
 
@@ -80,9 +77,6 @@ write-control-1-requires c κs = search needs
 
 from-chip-requires-5 : tie.Need-from-chip-requires-5
 from-chip-requires-5 c κs = search needs
-
-enum-known-step-8 : tie.Need-enum-known-step-8
-enum-known-step-8 c = search needs
 
 write-control-2-requires : tie.Need-write-control-2-requires
 write-control-2-requires c κs = search needs
@@ -116,19 +110,15 @@ returns-6 c = simp (c .from-chip3 .ensures, c .before .border-compares .ensures,
 
 returns-7 : tie.Need-returns-7
 unfolding doneOf
-returns-7 c = simp (c .display .ensures, c .before .before .step5 .given .1)
+returns-7 c = simp (c .from-chip4 .ensures, c .before .before .step5 .given .1)
 
 returns-8 : tie.Need-returns-8
 unfolding doneOf
-returns-8 c = simp (c .from-chip4 .ensures, c .before .before .step6 .given .1)
+returns-8 c = simp (c .from-chip5 .ensures, c .before .write-control-1 .ensures, c .before .before .before .step6 .given .1)
 
 returns-9 : tie.Need-returns-9
 unfolding doneOf
-returns-9 c = simp (c .from-chip5 .ensures, c .before .write-control-1 .ensures, c .before .before .before .step7 .given .1)
-
-returns-10 : tie.Need-returns-10
-unfolding doneOf
-returns-10 c = simp (c .from-chip6 .ensures, c .before .write-control-2 .ensures, c .before .before .before .step8 .given .1)
+returns-9 c = simp (c .from-chip6 .ensures, c .before .write-control-2 .ensures, c .before .before .before .step7 .given .1)
 
 pub step-spec : {M : Type 1} → statement M
 step-spec =
@@ -154,13 +144,11 @@ step-spec =
     border-compares-requires
     from-chip-requires-3
     enum-known-step-5
-    display-requires
-    enum-known-step-6
     from-chip-requires-4
-    enum-known-step-7
+    enum-known-step-6
     write-control-1-requires
     from-chip-requires-5
-    enum-known-step-8
+    enum-known-step-7
     write-control-2-requires
     from-chip-requires-6
     returns
@@ -171,5 +159,4 @@ step-spec =
     returns-6
     returns-7
     returns-8
-    returns-9
-    returns-10)
+    returns-9)

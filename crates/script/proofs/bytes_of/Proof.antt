@@ -15,11 +15,11 @@ enum-known-step-2 c = search needs
 enum-known-step-3 : tie.Need-enum-known-step-3
 enum-known-step-3 c = search needs
 
-cast-t18 : tie.Need-cast-t18
-cast-t18 c = search needs
+cast-t14 : tie.Need-cast-t14
+cast-t14 c = search needs
 
-cast-t20 : tie.Need-cast-t20
-cast-t20 c = search needs
+cast-t16 : tie.Need-cast-t16
+cast-t16 c = search needs
 
 enum-known-step-4 : tie.Need-enum-known-step-4
 enum-known-step-4 c = search needs
@@ -30,26 +30,11 @@ enum-told-2 c = search needs
 enum-known-step-5 : tie.Need-enum-known-step-5
 enum-known-step-5 c = search needs
 
-byte-of-requires : tie.Need-byte-of-requires
-byte-of-requires c κs = search needs
-
-byte-of-requires-2 : tie.Need-byte-of-requires-2
-byte-of-requires-2 c κs = search needs
-
-byte-of-requires-3 : tie.Need-byte-of-requires-3
-byte-of-requires-3 c κs = search needs
-
-byte-of-requires-4 : tie.Need-byte-of-requires-4
-byte-of-requires-4 c κs = search needs
-
 enum-known-step-6 : tie.Need-enum-known-step-6
 enum-known-step-6 c = search needs
 
 enum-known-step-7 : tie.Need-enum-known-step-7
 enum-known-step-7 c = search needs
-
-enum-known-step-8 : tie.Need-enum-known-step-8
-enum-known-step-8 c = search needs
 
 returns : tie.Need-returns
 unfolding bytesOf
@@ -77,9 +62,7 @@ returns-6 c = simp (c .enum-told2 .given .1)
 
 returns-7 : tie.Need-returns-7
 unfolding bytesOf
-returns-7 c =
-    let d = c .before .before .before in
-    simp (c .byte-of4 .ensures, c .before .byte-of3 .ensures, c .before .before .byte-of2 .ensures, d .byte-of .ensures, d .before .before .step5 .given .1)
+returns-7 c = simp (c .before .step5 .given .1)
 
 returns-8 : tie.Need-returns-8
 unfolding bytesOf
@@ -89,10 +72,6 @@ returns-9 : tie.Need-returns-9
 unfolding bytesOf
 returns-9 c = simp (c .before .step7 .given .1)
 
-returns-10 : tie.Need-returns-10
-unfolding bytesOf
-returns-10 c = simp (c .before .step8 .given .1)
-
 pub bytes-of-spec : {M : Type 1} → statement M
 bytes-of-spec =
     tie.close
@@ -101,18 +80,13 @@ bytes-of-spec =
     enum-known-step
     enum-known-step-2
     enum-known-step-3
-    cast-t18
-    cast-t20
+    cast-t14
+    cast-t16
     enum-known-step-4
     enum-told-2
     enum-known-step-5
-    byte-of-requires
-    byte-of-requires-2
-    byte-of-requires-3
-    byte-of-requires-4
     enum-known-step-6
     enum-known-step-7
-    enum-known-step-8
     returns
     returns-2
     returns-3
@@ -121,5 +95,4 @@ bytes-of-spec =
     returns-6
     returns-7
     returns-8
-    returns-9
-    returns-10)
+    returns-9)

@@ -37,9 +37,6 @@ allowed-if-requires-8 c κs = search needs
 allowed-if-requires-9 : tie.Need-allowed-if-requires-9
 allowed-if-requires-9 c κs = search needs
 
-allowed-if-requires-10 : tie.Need-allowed-if-requires-10
-allowed-if-requires-10 c κs = search needs
-
 returns : tie.Need-returns
 unfolding stepDecoded
 returns c = simp (c .before .match .keys1, c .allowed-if .ensures)
@@ -66,19 +63,19 @@ returns-6 c = simp (c .before .match .keys6, c .allowed-if6 .ensures)
 
 returns-7 : tie.Need-returns-7
 unfolding stepDecoded
-returns-7 c = simp (c .before .match .keys7, c .allowed-if7 .ensures)
+returns-7 c = simp (c .match .keys7)
 
 returns-8 : tie.Need-returns-8
 unfolding stepDecoded
-returns-8 c = simp (c .before .match .keys8, c .allowed-if8 .ensures)
+returns-8 c = simp (c .before .match .keys8, c .allowed-if7 .ensures)
 
 returns-9 : tie.Need-returns-9
 unfolding stepDecoded
-returns-9 c = simp (c .before .match .keys9, c .allowed-if9 .ensures)
+returns-9 c = simp (c .before .match .keys9, c .allowed-if8 .ensures)
 
 returns-10 : tie.Need-returns-10
 unfolding stepDecoded
-returns-10 c = simp (c .before .match .keys10, c .allowed-if10 .ensures)
+returns-10 c = simp (c .before .match .keys10, c .allowed-if9 .ensures)
 
 returns-11 : tie.Need-returns-11
 unfolding stepDecoded
@@ -99,7 +96,6 @@ decode-spec =
     allowed-if-requires-7
     allowed-if-requires-8
     allowed-if-requires-9
-    allowed-if-requires-10
     returns
     returns-2
     returns-3
