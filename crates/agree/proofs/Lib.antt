@@ -1,0 +1,2 @@
+pub mod Sprites
+pub mod Agree

@@ -1,0 +1,1 @@
+// The two records of sprite DMA, from power-up on: definitions and theorems alone.
