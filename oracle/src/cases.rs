@@ -6,7 +6,7 @@ use crate::memory::Memory;
 use crate::model::Model;
 use crate::replay::*;
 use crate::rng::Rng;
-use crate::scene::{fields, Sort, State, HEAD, SCENE};
+use crate::scene::{fields, flag_at, Sort, State, HEAD, SCENE};
 use crate::states::*;
 use crate::vic::glue::Machine;
 use crate::walk::Walker;
@@ -27,6 +27,9 @@ pub struct Maker {
     /// Of each kind, for ticks and for writes of each control register.
     turns: [[u64; 3]; 2],
     change: u64,
+    /// The flags that were drawn beside the last state's mask, and in how many cases they are apart from it.
+    flags: u8,
+    apart: u64,
 }
 
 impl Maker {
@@ -35,7 +38,7 @@ impl Maker {
         let memory = memory(&mut random);
         let original = Walker::new(Machine::new(memory.clone()), MOS6569);
         let model = Walker::new(Model::new(memory.clone(), MOS6567R8), MOS6567R8);
-        Self { random, only, memory, original, model, turns: [[0; 3]; 2], change: 0 }
+        Self { random, only, memory, original, model, turns: [[0; 3]; 2], change: 0, flags: 0, apart: 0 }
     }
 
     pub fn memory(&self) -> &Memory {
@@ -65,9 +68,11 @@ impl Maker {
                 s.clock += later;
                 s.forced_clock += later;
             }
+            self.flags = s.dma;
             return s;
         }
-        let mut s = accepted_state(r, kind, cycle);
+        let (mut s, flags) = accepted_state(r, kind, cycle);
+        self.flags = flags;
         match r.below(8) {
             0..=2 if (15..=54).contains(&cycle) => bend_to_merge(r, &mut s),
             3 | 4 if (15..=54).contains(&cycle) => {
@@ -96,15 +101,21 @@ impl Maker {
                 bend_to_edge(&mut self.random, &mut s, true);
             }
         } else if self.random.chance(1, 64) {
-            s = wild_state(&mut self.random, kind);
+            s = self.wild(kind);
         }
+        s
+    }
+
+    fn wild(&mut self, kind: u8) -> State {
+        let (s, flags) = wild_state(&mut self.random, kind);
+        self.flags = flags;
         s
     }
 
     /// A state for a call that takes any.
     fn any(&mut self, kind: u8, cycle: u16) -> State {
         if self.random.chance(1, 3) {
-            wild_state(&mut self.random, kind)
+            self.wild(kind)
         } else {
             self.nearly_accepted(kind, cycle)
         }
@@ -173,6 +184,7 @@ impl Maker {
         if (call == TICK && r.chance(1, 64)) || (call != TICK && r.chance(1, 8)) {
             bank = r.pick(&[4, 5, 128, 255]);
         }
+        self.apart += u64::from(self.flags != state.dma);
         Case { call, bank, arguments, state }
     }
 }
@@ -195,14 +207,19 @@ pub fn lend(memory: &Memory, output: &mut impl Write) -> io::Result<()> {
     output.write_all(&memory.colour[..])
 }
 
-pub fn make(seed: u64, count: u64, output: &str, only: Option<u8>) -> io::Result<()> {
+/// Makes a file of cases. Answers how many of them were drawn with a mask and flags that are apart.
+pub fn make(seed: u64, count: u64, output: &str, only: Option<u8>) -> io::Result<u64> {
     let mut output = create(output)?;
     let mut maker = Maker::new(seed, only);
     lend(maker.memory(), &mut output)?;
     for _ in 0..count {
         output.write_all(&maker.next().encode())?;
     }
-    output.flush()
+    output.flush()?;
+    if !maker.original.records().agree() {
+        return Err(io::Error::other("a run from power-up left the original's DMA mask and flags apart"));
+    }
+    Ok(maker.apart)
 }
 
 /// What makes a case none.
@@ -214,6 +231,8 @@ enum End {
     Head(usize),
     /// Another version of the scene, with its length: an old one, which `replay` does not take, or one to come.
     Version(u8, usize),
+    /// The version before, with flags.
+    Flagged,
     Cut,
 }
 
@@ -225,9 +244,10 @@ fn all_ends() -> Vec<End> {
         Sort::Flag => Some(End::Past(6 + field.offset, 2, 255)),
         Sort::Mode => Some(End::Past(6 + field.offset, 8, 255)),
         Sort::Place => Some(End::Past(6 + field.offset, 40, 254)),
+        Sort::Zero => Some(End::Past(6 + field.offset, 1, 255)),
     }));
     all.extend((0..HEAD.len()).map(End::Head));
-    all.extend([End::Version(1, SCENE - 1), End::Version(1, SCENE), End::Version(3, SCENE), End::Cut]);
+    all.extend([End::Version(1, SCENE - 1), End::Version(1, SCENE), End::Version(2, SCENE), End::Version(4, SCENE), End::Flagged, End::Cut]);
     all
 }
 
@@ -245,6 +265,11 @@ fn spoil(r: &mut Rng, end: End, round: usize, case: &mut Vec<u8>) {
         End::Version(version, length) => {
             case[6 + HEAD.len() - 1] = version;
             case.truncate(6 + length);
+        }
+        End::Flagged => {
+            case[6 + HEAD.len() - 1] = 2;
+            let flags = r.within(1, 255) as u8;
+            (0..8).for_each(|k| case[6 + flag_at(k)] = flags >> k & 1);
         }
         End::Cut => case.truncate(r.within(1, CASE as i64 - 1) as usize),
     }

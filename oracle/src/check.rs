@@ -3,7 +3,7 @@
 use crate::accept::accepted;
 use crate::ask::mask_at;
 use crate::cases::Maker;
-use crate::chip::{Chip, Judges, Refusal, CLOCK_AT_END};
+use crate::chip::{Chip, Judges, Records, Refusal, CLOCK_AT_END};
 use crate::kind::{MOS6567R8, MOS6569, NTSC, PAL};
 use crate::late::Met;
 use crate::memory::Memory;
@@ -42,6 +42,9 @@ pub fn check(seed: u64, count: u64) -> bool {
         if !accepted(&after) {
             return fault(number, &case.state, "the result is not accepted");
         }
+        if machine.flags() != after.dma {
+            return fault(number, &case.state, "the mask and the flags are apart");
+        }
         if drawn[3..] != after.encode() {
             return fault(number, &case.state, "the two arms of render_live differ");
         }
@@ -52,7 +55,7 @@ pub fn check(seed: u64, count: u64) -> bool {
         }
     }
     println!("{count} accepted states: {ticks} ticked, {at_end} at the end of the clock, no panic, every result accepted, both arms alike");
-    true
+    machine.records().agree() && drawing.records().agree()
 }
 
 fn fault(number: u64, state: &State, what: &str) -> bool {
@@ -93,7 +96,7 @@ fn calls(seed: u64, count: u64) -> bool {
     }
     let told: Vec<String> = [TICK].iter().chain(&OTHERS).map(|call| format!("{} {}", called(*call).unwrap_or_default(), counts[usize::from(*call)])).collect();
     println!("{count} answers, none differs: {}; {} ticks with DEN late", told.join(", "), judges.original.late());
-    true
+    judges.original.records().agree()
 }
 
 /// The fields in which two scenes differ.
@@ -168,6 +171,9 @@ impl Chip for Beside<'_> {
     fn late(&self) -> u64 {
         self.judges.original.late()
     }
+    fn records(&self) -> Records {
+        self.judges.original.records()
+    }
 }
 
 fn run_files(seed: u64, count: u64, files: Files) -> bool {
@@ -178,6 +184,9 @@ fn run_files(seed: u64, count: u64, files: Files) -> bool {
         let met = met.expect("nothing is written");
         if parted.get() {
             println!("run file {number} of seed {seed}: original and model differ");
+            return false;
+        }
+        if !met.records.agree() {
             return false;
         }
         whole.ticks += met.ticks;

@@ -16,6 +16,23 @@ pub const CLOCK_AT_END: Refusal = 4;
 pub const COMPARE_ABOVE_511: Refusal = 5;
 pub const UNKNOWN_KIND: Refusal = 12;
 
+/// The original says twice that a sprite fetches, and a state says it once: what was found of the two after its calls.
+#[derive(Clone, Copy, Default)]
+pub struct Records {
+    pub looked: u64,
+    pub apart: u64,
+}
+
+impl Records {
+    /// False where the two were apart after a call: what the original has then, no state says. A line on standard error tells of it.
+    pub fn agree(self) -> bool {
+        if self.apart > 0 {
+            eprintln!("the original's DMA mask and flags are apart after {} of {} calls", self.apart, self.looked);
+        }
+        self.apart == 0
+    }
+}
+
 pub trait Chip {
     /// The scene that it is in.
     fn state(&self) -> State;
@@ -50,6 +67,12 @@ pub trait Chip {
     /// How many ticks found DEN late, where that is another's rule than the chip's own.
     fn late(&self) -> u64 {
         0
+    }
+
+    /// After how many calls the chip was looked at for two records of sprite DMA, and after how many they were apart (02 (ix)). A chip with
+    /// one record has none.
+    fn records(&self) -> Records {
+        Records::default()
     }
 
     /// Ticks and nothing else, as far as they are taken.

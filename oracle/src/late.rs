@@ -1,6 +1,7 @@
 //! DEN that comes late on line 0x30 (docs/DIFFERENCES.md, 2). The original takes DEN in the line's first cycle alone, the port in
 //! each of its cycles: here the original is no judge by itself, and a stand-in of ours sets its latch before the tick.
 
+use crate::chip::Records;
 use crate::kind::{MOS6569, PAL};
 use crate::scene::State;
 
@@ -42,12 +43,14 @@ pub const MOVED: &[&str] = &[
     "graphics byte",
 ];
 
-/// What a run met: its ticks, those that found DEN late, and the first of them, counted from 0.
+/// What a run met: its ticks, those that found DEN late, and the first of them, counted from 0; and what its chip's records of sprite
+/// DMA were.
 #[derive(Default)]
 pub struct Met {
     pub ticks: u64,
     pub late: u64,
     pub first: Option<u64>,
+    pub records: Records,
 }
 
 impl Met {
@@ -60,10 +63,11 @@ impl Met {
         self.ticks += 1;
     }
 
-    /// A line on standard error where there was one.
-    pub fn tell(&self) {
+    /// A line on standard error where there was one. False where the records of sprite DMA were apart.
+    pub fn tell(&self) -> bool {
         if let Some(first) = self.first {
             eprintln!("{} ticks, DEN late in {}, first in {first}", self.ticks, self.late);
         }
+        self.records.agree()
     }
 }

@@ -53,6 +53,7 @@ or with --kind 6569 or --kind 6567R8 for one kind of chip:
   oracle check SEED COUNT                check the original on accepted states
   oracle check-model SEED COUNT          check the model by the original
   oracle power-up > SCENE                write the scene of a chip at power-up
+  oracle renew < OLD > SCENE             write a scene of any version as one of the newest
   oracle pace < FILE > SCENE             work a scene through steps, for bench/run
   oracle selftest                        check the oracle's own parts";
 
@@ -87,12 +88,15 @@ fn run(arguments: &[&str]) -> io::Result<Option<bool>> {
     // A run file has no place for the kind.
     let kind = only.unwrap_or(MOS6569);
     let verdict = match *arguments {
-        ["cases", seed, count, output] => cases::make(number(seed)?, number(count)?, output, only).map(|()| true),
+        ["cases", seed, count, output] => cases::make(number(seed)?, number(count)?, output, only).map(|apart| {
+            println!("{count} cases, {apart} of them drawn with flags apart from the DMA mask, and taken by the mask");
+            true
+        }),
         ["ends", seed, count, folder] => cases::make_ends(number(seed)?, number(count)?, folder, only).map(|ends| {
             println!("{ends} kinds of end");
             true
         }),
-        ["answer", input, output] => replay::answer(input, output, alone).map(|()| true),
+        ["answer", input, output] => replay::answer(input, output, alone),
         ["compare-replay", input, ours, theirs] => compare::compare(input, ours, theirs, alone),
         ["show", input, place] => compare::show(input, number(place)?),
         ["fields"] => {
@@ -107,29 +111,31 @@ fn run(arguments: &[&str]) -> io::Result<Option<bool>> {
         ["sample-run", seed, output] => runs::make_sample(number(seed)?, output, column(kind)).map(|()| true),
         ["chart"] => {
             let mut output = BufWriter::new(io::stdout().lock());
-            match kind {
-                MOS6569 => chart::chart(&given()?, &mut output, |memory| Machine::judging(memory, alone))?.tell(),
-                _ => chart::chart(&given()?, &mut output, |memory| Model::new(memory, kind))?.tell(),
-            }
-            output.flush().map(|()| true)
+            let met = match kind {
+                MOS6569 => chart::chart(&given()?, &mut output, |memory| Machine::judging(memory, alone))?,
+                _ => chart::chart(&given()?, &mut output, |memory| Model::new(memory, kind))?,
+            };
+            output.flush().map(|()| met.tell())
         }
         ["dump"] => {
             let mut output = BufWriter::new(io::stdout().lock());
-            match kind {
-                MOS6569 => dump::dump(&given()?, &mut output, |memory| Machine::judging(memory, alone))?.tell(),
-                _ => dump::dump(&given()?, &mut output, |memory| Model::new(memory, kind))?.tell(),
-            }
-            output.flush().map(|()| true)
+            let met = match kind {
+                MOS6569 => dump::dump(&given()?, &mut output, |memory| Machine::judging(memory, alone))?,
+                _ => dump::dump(&given()?, &mut output, |memory| Model::new(memory, kind))?,
+            };
+            output.flush().map(|()| met.tell())
         }
         ["power-up"] => {
             let mut judges = Judges::new(Memory::new(), alone);
             judges.of(kind).power_up(kind);
             io::stdout().write_all(&judges.of(kind).state().encode()).map(|()| true)
         }
-        ["pace"] => pace::pace(&given()?, &mut io::stdout().lock(), alone).map(|met| {
-            met.tell();
-            true
-        }),
+        ["renew"] => {
+            let bytes = scene::renewed(&given()?);
+            let sound = scene::State::decode(&bytes).is_some();
+            io::stdout().write_all(if sound { &bytes } else { &[] }).map(|()| sound)
+        }
+        ["pace"] => pace::pace(&given()?, &mut io::stdout().lock(), alone).map(|met| met.tell()),
         ["questions", seed, folder] => ask::make(number(seed)?, folder, only).map(|()| true),
         ["sample-questions", seed, output] => ask::make_sample(number(seed)?, output).map(|()| true),
         ["ask", input, output] => ask::answer(input, output).map(|()| true),

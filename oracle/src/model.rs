@@ -111,15 +111,15 @@ impl Model {
         }
     }
 
-    /// 3.8.1, rule 5, by departures 10 and 28: byte 1 is phase 1's, the others are phase 2's.
+    /// 3.8.1, rule 5, by departure 10: byte 1 is phase 1's, the others are phase 2's.
     fn sprite_byte(&mut self, k: usize, n: usize) {
-        let (mask, flag, aec) = (self.s.dma >> k & 1 == 1, self.s.sprites[k].dma, self.s.aec_low);
+        let on = self.s.dma >> k & 1 == 1;
         let sprite = self.s.sprites[k];
         // With DMA only sprite 0's first byte wants AEC; without, phase 1 is the chip's own.
-        let undriven = if mask && flag { (k, n) == (0, 2) && !aec } else { !aec && (mask || n != 1) };
-        let address = if mask && flag { u16::from(sprite.pointer) * 64 + u16::from(sprite.mc) } else { IDLE };
-        self.s.sprites[k].bytes[n] = if undriven { 0xFF } else { self.read(address) };
-        if mask && flag {
+        let wants_aec = if on { (k, n) == (0, 2) } else { n != 1 };
+        let address = if on { u16::from(sprite.pointer) * 64 + u16::from(sprite.mc) } else { IDLE };
+        self.s.sprites[k].bytes[n] = if wants_aec && !self.s.aec_low { 0xFF } else { self.read(address) };
+        if on {
             self.s.sprites[k].mc = (sprite.mc + 1) % 64;
         }
     }
@@ -335,22 +335,20 @@ fn on_line(s: &State) -> u8 {
 fn compare(s: &mut State) {
     let starting = on_line(s) & !s.dma;
     for (k, sprite) in s.sprites.iter_mut().enumerate().filter(|(k, _)| starting >> k & 1 == 1) {
-        sprite.dma = true;
         sprite.base = 0;
         s.flip &= !(s.y_expand & 1 << k);
     }
     s.dma |= starting;
 }
 
-/// Rules 7 and 8, by departures 3 and 28.
+/// Rules 7 and 8, by departure 3.
 fn step_mcbase(s: &mut State) {
     for (k, sprite) in s.sprites.iter_mut().enumerate() {
         if s.flip >> k & 1 == 1 {
             let crunched = (0x2A & sprite.base & sprite.mc) | (0x15 & (sprite.base | sprite.mc));
             sprite.base = if s.clear_pending >> k & 1 == 1 { crunched } else { sprite.mc };
         }
-        sprite.dma &= sprite.base != 63;
-        if !sprite.dma {
+        if sprite.base == 63 {
             s.dma &= !(1 << k);
         }
     }

@@ -43,5 +43,6 @@ pub fn pace(input: &[u8], output: &mut impl Write, alone: bool) -> io::Result<Me
         }
     }
     output.write_all(&chip.state().encode())?;
+    met.records = chip.records();
     Ok(met)
 }

@@ -41,6 +41,7 @@ pub fn play<C: Chip>(bytes: &[u8], make: impl FnOnce(Memory) -> C, mut tell: imp
             Ok(false) => {}
             Err(refusal) => {
                 tell(Event::Refused(refusal, done))?;
+                met.records = chip.records();
                 return Ok(met);
             }
         }
@@ -48,6 +49,7 @@ pub fn play<C: Chip>(bytes: &[u8], make: impl FnOnce(Memory) -> C, mut tell: imp
     if file.at < bytes.len() {
         tell(Event::Refused(BYTES_LEFT, steps))?;
     }
+    met.records = chip.records();
     Ok(met)
 }
 

@@ -137,15 +137,16 @@ pub fn answer_case(chip: &mut dyn Chip, case: &Case) -> [u8; ANSWER] {
     bytes
 }
 
-/// Answers a file of cases, as far as they go, each by the judge of its kind. The original alone has no answer to another kind.
-pub fn answer(input: &str, output: &str, alone: bool) -> io::Result<()> {
+/// Answers a file of cases, as far as they go, each by the judge of its kind. The original alone has no answer to another kind. False
+/// where a call leaves the original's two records of sprite DMA apart.
+pub fn answer(input: &str, output: &str, alone: bool) -> io::Result<bool> {
     let mut input = open(input)?;
     let mut output = create(output)?;
     let mut memory = Memory::new();
     for part in [&mut memory.ram[..], &mut memory.rom[..], &mut memory.colour[..]] {
         if fill(&mut input, part)? < part.len() {
             eprintln!("the input ends inside the memories: nothing to answer");
-            return output.flush();
+            return output.flush().map(|()| true);
         }
     }
     let mut judges = Judges::new(memory, alone);
@@ -168,8 +169,9 @@ pub fn answer(input: &str, output: &str, alone: bool) -> io::Result<()> {
         count += 1;
     }
     output.flush()?;
-    eprintln!("{count} cases answered");
-    Ok(())
+    let records = judges.original.records();
+    eprintln!("{count} cases answered; the original's DMA mask and flags looked at after {} calls", records.looked);
+    Ok(records.agree())
 }
 
 /// Opens a file, with its name in the message where that fails.

@@ -1,7 +1,18 @@
-//! A chip state in plain numbers, and its 309 bytes (docs/FORMATS.md, "Scene"). Version 2 alone is read here, as by `replay`.
+//! A chip state in plain numbers, and its 309 bytes (docs/FORMATS.md, "Scene"). `decode` takes the newest version alone, as `replay`
+//! does; `renewed` makes it of an older one.
+
+use crate::kind::MOS6569;
 
 pub const SCENE: usize = 309;
-pub const HEAD: [u8; 4] = [b'N', b'P', b'S', 2];
+pub const HEAD: [u8; 4] = [b'N', b'P', b'S', 3];
+/// Where the version stands.
+const VERSION: usize = 3;
+/// Version 1 ends before the kind.
+const WITHOUT_KIND: usize = SCENE - 1;
+/// Where the sprites of a scene begin, the bytes of each, and where in them versions 1 and 2 have a flag of DMA (02 (ix)).
+const SPRITES: usize = 75;
+const SPRITE: usize = 12;
+const FLAG: usize = 4;
 const NOTHING_PENDING: u8 = 255;
 
 #[derive(Clone, Copy, Debug, Default, PartialEq, Eq)]
@@ -10,7 +21,6 @@ pub struct Sprite {
     pub pointer: u8,
     pub mc: u8,
     pub base: u8,
-    pub dma: bool,
     pub word: u32,
     pub bytes: [u8; 3],
 }
@@ -124,6 +134,8 @@ trait Visit {
     fn flag(&mut self, name: Name, field: &mut bool);
     fn mode(&mut self, name: Name, field: &mut u8);
     fn place(&mut self, name: Name, field: &mut Option<u8>);
+    /// A byte that is no field and is 0.
+    fn zero(&mut self, name: Name);
 }
 
 impl State {
@@ -189,7 +201,7 @@ impl State {
             v.byte(("sprite ", Some(k), " pointer"), &mut sprite.pointer);
             v.byte(("sprite ", Some(k), " MC"), &mut sprite.mc);
             v.byte(("sprite ", Some(k), " MC base"), &mut sprite.base);
-            v.flag(("sprite ", Some(k), " DMA flag"), &mut sprite.dma);
+            v.zero(("sprite ", Some(k), " zero"));
             v.long(("sprite ", Some(k), " word"), &mut sprite.word);
             v.byte(("sprite ", Some(k), " byte 0"), &mut sprite.bytes[0]);
             v.byte(("sprite ", Some(k), " byte 1"), &mut sprite.bytes[1]);
@@ -235,7 +247,7 @@ impl State {
         writer.bytes
     }
 
-    /// Nothing where the bytes are not a scene.
+    /// Nothing where the bytes are not a scene of the newest version.
     pub fn decode(bytes: &[u8]) -> Option<Self> {
         if bytes.len() != SCENE || bytes[..HEAD.len()] != HEAD {
             return None;
@@ -245,6 +257,26 @@ impl State {
         state.visit(&mut reader);
         reader.sound.then_some(state)
     }
+}
+
+/// Where a version before 3 has the flag of sprite k.
+pub fn flag_at(k: usize) -> usize {
+    SPRITES + SPRITE * k + FLAG
+}
+
+/// The bytes of an older scene as the newest version has them; any other bytes are themselves. Version 1 has no kind and gets the 6569's.
+/// Up to version 2 each sprite has a flag: 0 or 1, or it is no scene; what it says is not looked at, since the mask decides (02 (ix)).
+pub fn renewed(bytes: &[u8]) -> Vec<u8> {
+    let mut bytes = bytes.to_vec();
+    if bytes.len() == WITHOUT_KIND && bytes[VERSION] == 1 {
+        bytes.push(MOS6569);
+        bytes[VERSION] = 2;
+    }
+    if bytes.len() == SCENE && bytes[VERSION] == 2 && (0..8).all(|k| bytes[flag_at(k)] <= 1) {
+        (0..8).for_each(|k| bytes[flag_at(k)] = 0);
+        bytes[VERSION] = 3;
+    }
+    bytes
 }
 
 /// One field's place in a scene.
@@ -263,6 +295,7 @@ pub enum Sort {
     Flag,
     Mode,
     Place,
+    Zero,
 }
 
 impl Sort {
@@ -273,6 +306,7 @@ impl Sort {
             Sort::Flag => "flag",
             Sort::Mode => "mode",
             Sort::Place => "place",
+            Sort::Zero => "zero",
         }
     }
 }
@@ -322,6 +356,9 @@ impl Visit for Writer {
     fn place(&mut self, _: Name, field: &mut Option<u8>) {
         self.put(&[field.unwrap_or(NOTHING_PENDING)]);
     }
+    fn zero(&mut self, _: Name) {
+        self.put(&[0]);
+    }
 }
 
 struct Reader<'a> {
@@ -369,6 +406,10 @@ impl Visit for Reader<'_> {
         self.sound &= byte == NOTHING_PENDING || byte <= 39;
         *field = (byte != NOTHING_PENDING).then_some(byte);
     }
+    fn zero(&mut self, _: Name) {
+        let [byte] = self.get();
+        self.sound &= byte == 0;
+    }
 }
 
 struct Names {
@@ -408,5 +449,8 @@ impl Visit for Names {
     }
     fn place(&mut self, name: Name, _: &mut Option<u8>) {
         self.add(name, 1, Sort::Place);
+    }
+    fn zero(&mut self, name: Name) {
+        self.add(name, 1, Sort::Zero);
     }
 }

@@ -11,7 +11,7 @@ use crate::memory::Memory;
 use crate::model::{powered, Model};
 use crate::replay::{answer_case, Case, LATE_BYTE, TICK};
 use crate::rng::Rng;
-use crate::scene::{fields, Sort, State, SCENE};
+use crate::scene::{fields, flag_at, renewed, Sort, State, SCENE};
 use crate::states::{accepted_state, wild_state};
 use crate::vic::fsm::{DisplayState, GraphicsMode};
 use crate::vic::glue::Machine;
@@ -23,6 +23,7 @@ type Check = (&'static str, fn() -> bool);
 const CHECKS: &[Check] = &[
     ("scenes keep their bytes", scenes_keep_their_bytes),
     ("what is not a scene is told", others_are_told),
+    ("older scenes, and what becomes of their flags", older_scenes),
     ("the chip keeps a scene", the_chip_keeps_a_scene),
     ("power-up", power_up),
     ("document 01's chart", the_chart),
@@ -32,6 +33,7 @@ const CHECKS: &[Check] = &[
     ("the mask follows the slots", the_mask),
     ("what the original does where the port leaves it", the_originals_own),
     ("a late DEN, and the stand-in of it", the_late_den),
+    ("the original's two records of sprite DMA", the_two_records),
     ("the writes of $D011 and $D016", the_control_writes),
     ("the 6567R8: its line, its frame and its slots", the_column),
     ("the 6567R8: power-up, and what is refused", the_kinds),
@@ -52,9 +54,9 @@ pub fn selftest() -> bool {
 fn any_state(r: &mut Rng, kind: u8) -> State {
     let cycle = r.within(1, column(kind).last_cycle.into()) as u16;
     if r.flag() {
-        accepted_state(r, kind, cycle)
+        accepted_state(r, kind, cycle).0
     } else {
-        wild_state(r, kind)
+        wild_state(r, kind).0
     }
 }
 
@@ -71,7 +73,7 @@ fn scenes_keep_their_bytes() -> bool {
 
 /// Every byte that may not be anything is tried with all its values.
 fn others_are_told() -> bool {
-    let bytes = accepted_state(&mut Rng::new(2), MOS6569, 17).encode();
+    let bytes = accepted_state(&mut Rng::new(2), MOS6569, 17).0.encode();
     let with = |place: usize, value: u8| {
         let mut other = bytes;
         other[place] = value;
@@ -85,12 +87,53 @@ fn others_are_told() -> bool {
                 Sort::Flag => value <= 1,
                 Sort::Mode => value <= 7,
                 Sort::Place => value <= 39 || value == 255,
+                Sort::Zero => value == 0,
             };
             with(field.offset, value) == allowed
         })
     });
     let longer = [&bytes[..], &[0]].concat();
     head && limits && State::decode(&bytes[..SCENE - 1]).is_none() && State::decode(&longer).is_none()
+}
+
+/// A scene of this version as the state has it, with these flags.
+fn older(state: &State, version: u8, flags: [u8; 8]) -> Vec<u8> {
+    let mut bytes = state.encode().to_vec();
+    bytes[3] = version;
+    (0..8).for_each(|k| bytes[flag_at(k)] = flags[k]);
+    bytes.truncate(if version == 1 { SCENE - 1 } else { SCENE });
+    bytes
+}
+
+/// docs/FORMATS.md, "Scene": versions 1 and 2 are brought in with the mask, whatever their flags say, and a flag is 0 or 1.
+fn older_scenes() -> bool {
+    let mut r = Rng::new(5);
+    let read = |bytes: &[u8]| State::decode(&renewed(bytes));
+    let brought = (0..20_000).all(|_| {
+        let state = any_state(&mut r, MOS6569);
+        let flags = r.byte();
+        let flags: [u8; 8] = std::array::from_fn(|k| flags >> k & 1);
+        // One flag is none.
+        let mut wrong = flags;
+        wrong[r.below(8) as usize] = r.within(2, 255) as u8;
+        [1, 2].iter().all(|version| {
+            let flagged = older(&state, *version, flags);
+            State::decode(&flagged).is_none() && read(&flagged).as_ref() == Some(&state) && read(&older(&state, *version, wrong)).is_none()
+        }) && renewed(&state.encode()) == state.encode()
+    });
+    // Each flag with the least value that is none.
+    let second = |k: usize| older(&powered(MOS6569), 2, std::array::from_fn(|n| if n == k { 2 } else { 1 }));
+    let two = (0..8).all(|k| read(&second(k)).is_none());
+    // The kind of version 2 stays; a version's number wants its length; the newest has no flag.
+    let state = State { kind: 7, dma: 0x0F, ..powered(MOS6569) };
+    let second = older(&state, 2, [0, 1, 0, 1, 0, 1, 0, 1]);
+    let kept = read(&second).as_ref() == Some(&state);
+    let length =
+        read(&second[..SCENE - 1]).is_none() && read(&older(&state, 1, [0; 8])[..SCENE - 2]).is_none() && read(&[&second[..], &[0]].concat()).is_none();
+    let places = (0..8).map(flag_at).collect::<Vec<usize>>() == [79, 91, 103, 115, 127, 139, 151, 163];
+    let newest = (0..8).all(|k| read(&older(&state, 3, std::array::from_fn(|n| u8::from(n == k)))).is_none())
+        && [0, 4].iter().all(|version| read(&older(&state, *version, [0; 8])).is_none());
+    brought && two && kept && length && places && newest && [&[][..], &[78, 80, 83], &[78, 80, 83, 1]].iter().all(|bytes| renewed(bytes) == *bytes)
 }
 
 fn the_chip_keeps_a_scene() -> bool {
@@ -273,7 +316,6 @@ fn the_twelve() -> bool {
     let ended = tick(&|s| {
         s.cycle = 15;
         s.dma = 1;
-        s.sprites[0].dma = true;
         s.sprites[0].base = 60;
         s.sprites[0].mc = 63;
     });
@@ -298,7 +340,7 @@ fn the_twelve() -> bool {
     bad_lines
         && masks
         && crunched.sprites[0].base == 7
-        && (ended.sprites[0].base, ended.sprites[0].dma, ended.dma) == (63, false, 0)
+        && (ended.sprites[0].base, ended.dma) == (63, 0)
         && (late.matrix.0[5], late.pending) == (0x07FF, None)
         && (bad_at_58.rc, bad_at_58.displaying) == (0, true)
         && (idle_at_58.rc, idle_at_58.displaying) == (7, false)
@@ -378,7 +420,7 @@ fn the_late_den() -> bool {
     let mut alone = Machine::judging(Memory::new(), true);
     let (mut late, mut apart) = (0, 0);
     let sound = (0..100_000).all(|number: u32| {
-        let mut state = accepted_state(&mut r, MOS6569, 1 + (number % 63) as u16);
+        let (mut state, _) = accepted_state(&mut r, MOS6569, 1 + (number % 63) as u16);
         state.clock = state.clock.min(CLOCK_LIMIT - 2);
         if number % 2 == 0 {
             state.raster = r.pick(&[0x2F, 0x30, 0x30, 0x30]);
@@ -400,6 +442,46 @@ fn the_late_den() -> bool {
         judge.den_latch == (latch && !wraps) && original.den_latch == (old && !wraps) && (judge == original || is_late(&state))
     });
     sound && beside.late() == late && alone.late() == late && 0 < apart && apart <= late
+}
+
+/// docs/DIFFERENCES.md, 28: what the original makes of a mask and flags that are apart, which no state says any more; and that it is told
+/// where a call leaves them so. From a state the two agree, and go on so.
+fn the_two_records() -> bool {
+    let mut memory = Memory::new();
+    (memory.ram[0x3F9], memory.ram[64], memory.ram[0x3FFF]) = (1, 0xAB, 0x5A);
+    // One tick of the original from a cycle, with this mask and these flags: byte 2 and MC of sprite 1, the mask, the flags, and how often
+    // the two were apart.
+    let tick = |cycle: u16, mask: u8, flags: u8, base: u8| {
+        let mut machine = Machine::new(memory.clone());
+        let mut state = State { cycle, dma: mask, ..machine.state() };
+        (state.sprites[0].base, state.sprites[0].mc) = (base, base);
+        machine.load(&state);
+        machine.set_flags(flags);
+        machine.tick().expect("the tick is taken");
+        let (after, flags, apart) = (machine.state(), machine.flags(), machine.records().apart);
+        (after.sprites[1].bytes[2], after.sprites[1].mc, after.dma, flags, apart)
+    };
+    // Cycle 60, sprite 1's pointer slot, without AEC: both, the mask alone, the flag alone, neither.
+    let slots = [(2, 2), (2, 0), (0, 2), (0, 0)].map(|(mask, flags)| tick(59, mask, flags, 0))
+        == [(0xAB, 1, 2, 2, 0), (0xFF, 0, 2, 0, 1), (0xFF, 0, 0, 2, 1), (0xFF, 0, 0, 0, 0)];
+    // Cycle 16, base 5: the mask alone is lost, and so the two agree again; the flag alone stays.
+    let steps = [(1, 1), (1, 0), (0, 1)].map(|(mask, flags)| tick(15, mask, flags, 5)) == [(0, 0, 1, 1, 0), (0, 0, 0, 0, 0), (0, 0, 0, 1, 1)];
+    // Base 63: both are lost, whatever they were.
+    let ends = [(1, 1), (1, 0), (0, 1), (0, 0)].map(|(mask, flags)| tick(15, mask, flags, 63)) == [(0, 0, 0, 0, 0); 4];
+
+    // Every mask, in every cycle: the state's mask is the flags' too, before the tick and after it.
+    let mut r = Rng::new(6);
+    let mut machine = Machine::new(memory);
+    let agree = (0..100_000).all(|number: u32| {
+        let (mut state, _) = accepted_state(&mut r, MOS6569, 1 + (number % 63) as u16);
+        state.clock = state.clock.min(CLOCK_LIMIT - 2);
+        state.dma = (number / 63) as u8;
+        machine.load(&state);
+        let before = machine.flags() == state.dma;
+        machine.tick().expect("the tick is taken");
+        before && machine.flags() == machine.state().dma
+    });
+    slots && steps && ends && agree && machine.records().apart == 0 && machine.records().looked > 100_000
 }
 
 /// 02 (vi), worked out by hand, on the original with our calls, and on the model as each kind.
@@ -613,7 +695,8 @@ fn the_first_slot() -> bool {
         });
         (s.sprites[0].mc, s.sprite_display)
     };
-    let loads = [56, 57, 58, 59].map(shown) == [(0, 0), (0, 0), (9, 1), (0, 0)];
+    // Sprite 0's slots move MC on, by one in 59 and by two in 60.
+    let loads = [56, 57, 58, 59].map(shown) == [(0, 0), (0, 0), (10, 1), (2, 0)];
     let rc = |cycle: u16| ticked(MOS6567R8, cycle, 1, |s| s.displaying = true).rc;
     let accessing = |cycle: u16| ticked(MOS6567R8, cycle, 1, |s| s.accessing = true).accessing;
     let closed = |ctrl2: u8| [54, 55, 56, 57].map(|cycle| ticked(MOS6567R8, cycle, 1, |s| (s.main_border, s.ctrl2) = (false, ctrl2)).main_border);
@@ -658,13 +741,13 @@ fn the_slots() -> bool {
     let aec = [1, 2, 3, 4, 5, 6].map(|ticks| (starts(ticks).ba_low, starts(ticks).aec_low));
     let falls = aec == [(true, false), (true, false), (true, false), (true, true), (true, true), (false, false)];
     let read = starts(4).sprites[0];
-    let late = ticked(MOS6567R8, 58, 1, |s| (s.dma, s.sprites[0].dma) = (1, true)).sprites[0];
+    let late = ticked(MOS6567R8, 58, 1, |s| s.dma = 1).sprites[0];
     let bytes = (read.bytes[2], read.mc) == (0, 1) && (late.bytes[2], late.mc) == (0xFF, 1);
 
     // A bad line with sprite 0: BA has a gap in 55, which the 6569 has not.
     let bad = |kind: u8| {
         [54, 55, 56].map(|cycle| {
-            let lines = |s: &mut State| (s.raster, s.den_latch, s.dma, s.sprites[0].dma) = (0x30, true, 1, true);
+            let lines = |s: &mut State| (s.raster, s.den_latch, s.dma) = (0x30, true, 1);
             ticked(kind, 53, cycle - 53, lines).ba_low
         })
     };

@@ -14,15 +14,20 @@ fn corner(r: &mut Rng, column: Column) -> u16 {
     line.min(column.last_line)
 }
 
+/// A made-up state, and the flags that were drawn beside its DMA mask, one for each sprite. A scene up to version 2 had both, and in two of
+/// five states they are drawn apart. A state has the mask alone (02 (ix)): the flags only say which states were none that agree.
+pub type Drawn = (State, u8);
+
 /// Any accepted state of a known kind at a cycle. Every field takes every value that acceptance allows.
-pub fn accepted_state(r: &mut Rng, kind: u8, cycle: u16) -> State {
+pub fn accepted_state(r: &mut Rng, kind: u8, cycle: u16) -> Drawn {
     let column = column(kind);
     let (raster, compared) = lines(r, column, cycle);
     let clock = clock(r);
     let dma = r.mask();
     let agree = r.chance(3, 5);
     let aec_counter = r.within(-1, 3) as i8;
-    State {
+    let mut flags = 0;
+    let state = State {
         cycle,
         raster,
         den: r.flag(),
@@ -71,14 +76,10 @@ pub fn accepted_state(r: &mut Rng, kind: u8, cycle: u16) -> State {
         sprite_display: r.mask(),
         vertical_match: r.byte(),
 
-        sprites: std::array::from_fn(|k| Sprite {
-            number: k as u8,
-            pointer: r.byte(),
-            mc: counter(r),
-            base: counter(r),
-            dma: if agree { dma >> k & 1 == 1 } else { r.flag() },
-            word: r.next() as u32,
-            bytes: array(r),
+        sprites: std::array::from_fn(|k| {
+            let (pointer, mc, base) = (r.byte(), counter(r), counter(r));
+            flags |= if agree { dma & 1 << k } else { u8::from(r.flag()) << k };
+            Sprite { number: k as u8, pointer, mc, base, word: r.next() as u32, bytes: array(r) }
         }),
         matrix: Matrix(std::array::from_fn(|_| r.word())),
 
@@ -109,7 +110,8 @@ pub fn accepted_state(r: &mut Rng, kind: u8, cycle: u16) -> State {
         clock,
         pending: if r.flag() { Some(r.below(40) as u8) } else { None },
         kind,
-    }
+    };
+    (state, flags)
 }
 
 /// Bends a state so that the next tick merges: displaying, no bad line, RC 0, output enabled, and
@@ -235,8 +237,8 @@ pub fn bend_to_edge(r: &mut Rng, s: &mut State, past: bool) {
 }
 
 /// Any scene at all of a kind. Few of these are accepted; the calls that never refuse take them.
-pub fn wild_state(r: &mut Rng, kind: u8) -> State {
-    let mut s = accepted_state(r, kind, 1);
+pub fn wild_state(r: &mut Rng, kind: u8) -> Drawn {
+    let (mut s, flags) = accepted_state(r, kind, 1);
     s.cycle = if r.flag() { r.below(70) as u16 } else { r.word() };
     s.raster = r.word();
     s.compare = r.word();
@@ -254,7 +256,7 @@ pub fn wild_state(r: &mut Rng, kind: u8) -> State {
         sprite.mc = r.byte();
         sprite.base = r.byte();
     }
-    s
+    (s, flags)
 }
 
 /// The state's line, and the one that the next tick compares: cycle 1 moves the raster on first, but

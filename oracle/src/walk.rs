@@ -1,6 +1,6 @@
 //! States as runs have them: a host that ticks a chip from power-up and calls it at random.
 
-use crate::chip::Chip;
+use crate::chip::{Chip, Records};
 use crate::kind::{column, Column};
 use crate::rng::Rng;
 use crate::scene::State;
@@ -19,6 +19,11 @@ pub struct Walker<C> {
 impl<C: Chip> Walker<C> {
     pub fn new(chip: C, kind: u8) -> Self {
         Self { chip, kind, column: column(kind), quiet: 1, left: 0 }
+    }
+
+    /// What the chip's records of sprite DMA were so far.
+    pub fn records(&self) -> Records {
+        self.chip.records()
     }
 
     /// Ticks on to the next time at this cycle, by way of at least a few lines at times.

@@ -76,12 +76,12 @@ pub byte-two-length : (bytes : List ℕ) (k : ℕ) (first on : Bool) (mc : ℕ) 
 unfolding byteTwoAfter
 byte-two-length bytes k first on mc low ptrs ram rom bank = simp length-set
 
-pub data-length : (pointers bytes : List ℕ) (k : ℕ) (mask flag : Bool) (mc : ℕ) (low : Bool) (ram rom : List ℕ) (bank : ℕ)
-    → length (dataAfter pointers bytes k mask flag mc low ram rom bank) ≡ length bytes
+pub data-length : (pointers bytes : List ℕ) (k : ℕ) (on : Bool) (mc : ℕ) (low : Bool) (ram rom : List ℕ) (bank : ℕ)
+    → length (dataAfter pointers bytes k on mc low ram rom bank) ≡ length bytes
 unfolding dataAfter
-data-length pointers bytes k mask flag mc low ram rom bank = simp length-set
+data-length pointers bytes k on mc low ram rom bank = simp length-set
 
-pub words-length : (pointers bytes words : List ℕ) (k : ℕ) (mask flag : Bool) (mc : ℕ) (low : Bool) (ram rom : List ℕ) (bank : ℕ)
-    → length (wordsAfter pointers bytes words k mask flag mc low ram rom bank) ≡ length words
+pub words-length : (pointers bytes words : List ℕ) (k : ℕ) (on : Bool) (mc : ℕ) (low : Bool) (ram rom : List ℕ) (bank : ℕ)
+    → length (wordsAfter pointers bytes words k on mc low ram rom bank) ≡ length words
 unfolding wordsAfter
-words-length pointers bytes words k mask flag mc low ram rom bank = simp length-set
+words-length pointers bytes words k on mc low ram rom bank = simp length-set

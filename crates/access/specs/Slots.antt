@@ -31,24 +31,24 @@ byteTwoAfter bytes k first on mc low ptrs ram rom bank =
     set bytes (k * 3 + 2)
     (orOpen ((on && not first) || low) (readAt ram rom bank (byteAddress on (pointerRead k ptrs ram rom bank) mc) .byte))
 
--- DECISIONS 5: without the mask byte 1 reads the idle address always; with it, only the flag or AEC lets it
-unfoldable pub byteOne : List ℕ → ℕ → Bool → Bool → ℕ → Bool → List ℕ → List ℕ → ℕ → ℕ
-byteOne pointers k mask flag mc low ram rom bank =
-    orOpen (not mask || flag || low) (readAt ram rom bank (byteAddress (mask && flag) (getD pointers k 0) mc) .byte)
+-- DECISIONS 5: byte 1 is read whatever AEC is, without DMA too
+unfoldable pub byteOne : List ℕ → ℕ → Bool → ℕ → List ℕ → List ℕ → ℕ → ℕ
+byteOne pointers k on mc ram rom bank = readAt ram rom bank (byteAddress on (getD pointers k 0) mc) .byte
 
-unfoldable pub byteZero : List ℕ → ℕ → Bool → Bool → ℕ → Bool → List ℕ → List ℕ → ℕ → ℕ
-byteZero pointers k mask flag mc low ram rom bank =
-    orOpen ((mask && flag) || low) (readAt ram rom bank (byteAddress (mask && flag) (getD pointers k 0) (mc % 64 + 1)) .byte)
+-- DECISIONS 5: with DMA it is read whatever AEC is; without it only with AEC low
+unfoldable pub byteZero : List ℕ → ℕ → Bool → ℕ → Bool → List ℕ → List ℕ → ℕ → ℕ
+byteZero pointers k on mc low ram rom bank =
+    orOpen (on || low) (readAt ram rom bank (byteAddress on (getD pointers k 0) (mc % 64 + 1)) .byte)
 
-unfoldable pub dataAfter : List ℕ → List ℕ → ℕ → Bool → Bool → ℕ → Bool → List ℕ → List ℕ → ℕ → List ℕ
-dataAfter pointers bytes k mask flag mc low ram rom bank =
-    set (set bytes (k * 3) (byteZero pointers k mask flag mc low ram rom bank)) (k * 3 + 1) (byteOne pointers k mask flag mc low ram rom bank)
+unfoldable pub dataAfter : List ℕ → List ℕ → ℕ → Bool → ℕ → Bool → List ℕ → List ℕ → ℕ → List ℕ
+dataAfter pointers bytes k on mc low ram rom bank =
+    set (set bytes (k * 3) (byteZero pointers k on mc low ram rom bank)) (k * 3 + 1) (byteOne pointers k on mc ram rom bank)
 
 -- Bauer 3.8.1 rule 5: byte 2 is the most significant
 unfoldable pub wordOf : ℕ → ℕ → ℕ → ℕ
 wordOf two one zero' = two * 65536 + one * 256 + zero'
 
-unfoldable pub wordsAfter : List ℕ → List ℕ → List ℕ → ℕ → Bool → Bool → ℕ → Bool → List ℕ → List ℕ → ℕ → List ℕ
-wordsAfter pointers bytes words k mask flag mc low ram rom bank =
+unfoldable pub wordsAfter : List ℕ → List ℕ → List ℕ → ℕ → Bool → ℕ → Bool → List ℕ → List ℕ → ℕ → List ℕ
+wordsAfter pointers bytes words k on mc low ram rom bank =
     set words k
-    (wordOf (getD bytes (k * 3 + 2) 0) (byteOne pointers k mask flag mc low ram rom bank) (byteZero pointers k mask flag mc low ram rom bank))
+    (wordOf (getD bytes (k * 3 + 2) 0) (byteOne pointers k on mc ram rom bank) (byteZero pointers k on mc low ram rom bank))

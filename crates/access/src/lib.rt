@@ -332,14 +332,13 @@ pub fn word_of(two: u8, one: u8, zero: u8) -> u32
     (two as u32) * 65536 + (one as u32) * 256 + (zero as u32)
 }
 
-// A data slot: byte 1, byte 0, and the word put together. The mask and the sprite's own flag may disagree.
+// A data slot: byte 1, byte 0, and the word put together. Byte 1 is read with and without DMA.
 pub fn data_slot(
     pointers: &[u8],
     bytes: &mut [u8],
     words: &mut [u32],
     k: usize,
-    mask: bool,
-    flag: bool,
+    on: bool,
     mc: u8,
     low: bool,
     ram: &[u8],
@@ -347,13 +346,12 @@ pub fn data_slot(
     bank: u8,
 )
     requires { ⌜ (length (now pointers) ≡ 8) × (length (now bytes) ≡ 24) × (length (now words) ≡ 8) ⌝ ∗ ⌜ k < 8 ⌝ ∗ ⌜ Lent (now ram) (now rom) ⌝ }
-    ensures { λ r. ⌜ now (bytes .exit) ≡ dataAfter (now (pointers .entry)) (now (bytes .entry)) k mask flag mc low (now (ram .entry)) (now (rom .entry)) bank ⌝ ∗ ⌜ now (words .exit) ≡ wordsAfter (now (pointers .entry)) (now (bytes .entry)) (now (words .entry)) k mask flag mc low (now (ram .entry)) (now (rom .entry)) bank ⌝ }
+    ensures { λ r. ⌜ now (bytes .exit) ≡ dataAfter (now (pointers .entry)) (now (bytes .entry)) k on mc low (now (ram .entry)) (now (rom .entry)) bank ⌝ ∗ ⌜ now (words .exit) ≡ wordsAfter (now (pointers .entry)) (now (bytes .entry)) (now (words .entry)) k on mc low (now (ram .entry)) (now (rom .entry)) bank ⌝ }
 {
     let pointer = pointers[k];
-    let on = mask & flag;
     let first = memory::read(ram, rom, bank, byte_address(on, pointer, mc));
     let second = memory::read(ram, rom, bank, byte_address(on, pointer, mc % 64 + 1));
-    let one = or_open(!mask | flag | low, first.byte);
+    let one = first.byte;
     let zero = or_open(on | low, second.byte);
     let at = k * 3;
     let two = bytes[at + 2];

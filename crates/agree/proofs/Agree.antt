@@ -1,108 +1,114 @@
--- 02 (ix): from power-up the mask and the sprites' flags say the same after every call. Assumes nothing.
+-- 02 (ix): no run from power-up changes with the flag's going. Assumes nothing.
 use Prim.Native.Nat.{ℕ, zero, suc}
-use mathlib.Core.Bool.{Bool, cond}
+use mathlib.Core.Path.{_≡_, refl, ap, _∙_}
+use mathlib.Core.Bool.{Bool, true, false, not, _||_, cond}
 use mathlib.Core.List.{List, [], _∷_}
 use lib.Dec.{eqb, ltb}
+use Rattle.laws.specs.Bits.{hasBit}
 use Rattle.laws.proofs.Choice.{either}
 use Rattle.memory.specs.Lent.{Host}
-use Rattle.schedule.specs.Kind.{Kind, kindOf}
-use Rattle.schedule.specs.Diagram.{happens, mcbaseStep, firstPhase, secondPhase, mcLoad, slotSprite, pointerTime, dataTime}
-use Rattle.schedule.proofs.Laws.{slot-small}
+use Rattle.schedule.specs.Kind.{kindOf}
+use Rattle.schedule.specs.Diagram.{slotSprite, pointerTime, dataTime}
 use Rattle.registers.specs.declared.Controls.{Controls}
 use Rattle.registers.specs.Control.{timed}
 use Rattle.timing.specs.Beam.{nextCycle}
-use Rattle.sprites.specs.declared.Sprites.{Sprites}
+use Rattle.raster.specs.Frame.{swept}
+use Rattle.sprites.specs.Sprites.{allFresh}
 use Rattle.rows.specs.declared.Pending.{Pending}
 use Rattle.rows.specs.declared.Pending.the-variants.{Nothing, At}
+use Rattle.access.specs.Slots.{orOpen, byteOne, byteZero}
 use Rattle.side.specs.declared.Side.{Side}
-use Rattle.side.specs.Phases.{stepAt, firstAt, secondAt, loadAt, phased, slotMoved}
+use Rattle.side.specs.Phases.{phased}
 use Rattle.side.specs.Turn.{freshSide, turned}
-use Rattle.side.proofs.Kept.{sweep}
 use Rattle.chip.specs.declared.Chip.{Chip}
 use Rattle.chip.specs.declared.Answer.{Answer}
-use Rattle.chip.specs.Chip.{powered}
+use Rattle.chip.specs.Chip.{answer, powered}
 use Rattle.chip.specs.Accept.{stateRefusal}
-use Rattle.sequencer.specs.Tick.{tickWorld, tickRefusal, ticked, ticksFrom}
+use Rattle.sequencer.specs.Tick.{tickWorld, tickOf, tickRefusal, ticked, ticksFrom}
 use Rattle.calls.specs.Calls.{isExpand, fileWritten, expandAt, registerWritten, comparesBy, controlStored, control1Written, control2Written, controlsPlaced, lateAt, lateTaken}
 use Rattle.artwork.specs.Runs.{Call, tick, ticks, write, expand, compares, control-1, control-2, place-controls, late, done, run}
-use Rattle.agree.specs.Agree.{Each, none, more, MaskAndFlagAgree}
-use Rattle.agree.proofs.Sprites.{Level, level-mcbase, level-first, level-second, level-load, level-expand, level-fetched, level-fresh}
+use Rattle.agree.specs.Was.{Flagged, freshWas, slotMovedWas, byteOneWas, byteZeroWas}
+use Rattle.agree.specs.Agree.{flagged, turnedWas, tickedWas, ticksWas, expandWas, doneWas, beside, asTheMask, WhereTheyAgree, NoRunChanges, NoByteChanges}
+use Rattle.agree.proofs.Steps.{same-way, twice, expand-agrees, phased-agrees, slot-agrees}
 
 -- ---- a tick
 
-at-cycle : (b : Bool) {s t : Sprites} → (Level s → Level t) → Level s → Level (cond b t s)
-at-cycle b keeps h = either Level b (keeps h) h
-
-level-phased : (k : Kind) (cycle raster : ℕ) (my : List ℕ) (enable yexp : ℕ) {s : Sprites} → Level s → Level (phased k cycle raster my enable yexp s)
-unfolding phased stepAt firstAt secondAt loadAt
-level-phased k cycle raster my enable yexp h =
-    at-cycle (happens (mcLoad k) cycle) (level-load raster my enable)
-    (at-cycle (happens (secondPhase k) cycle) (level-second raster my enable yexp)
-    (at-cycle (happens (firstPhase k) cycle) (level-first raster my enable yexp)
-    (at-cycle (happens mcbaseStep cycle) level-mcbase h)))
-
-level-slot : (pointing fetching : Bool) (k : Kind) (cycle : ℕ) {s : Sprites} → Level s → Level (slotMoved pointing fetching (slotSprite k cycle) s)
-unfolding slotMoved
-level-slot pointing fetching k cycle h =
-    either Level pointing (level-fetched (slotSprite k cycle) 1 (slot-small k cycle) h)
-    (either Level fetching (level-fetched (slotSprite k cycle) 2 (slot-small k cycle) h) h)
-
-level-turned : (g : Controls) (s : Side) → Level (s .sprites) → Level (turned g s .side .sprites)
-unfolding turned
-level-turned g s h =
+turned-agrees : (g : Controls) (s : Side) → turnedWas g s (flagged (s .sprites)) ≡ flagged (turned g s .side .sprites)
+unfolding turnedWas turned
+turned-agrees g s =
     let k = kindOf (s .beam .kind) in
     let cycle = nextCycle k (s .beam .cycle) in
-    level-slot (pointerTime k cycle) (dataTime k cycle) k cycle (level-phased k cycle (sweep g s .raster) (g .my) (g .enable) (g .yexp) h)
+    let raster = swept k (s .frame) (s .irq) cycle (s .beam .raster) (g .compare) (g .den) (s .beam .latch) .raster in
+    ap (slotMovedWas (pointerTime k cycle) (dataTime k cycle) (slotSprite k cycle)) (phased-agrees k cycle raster (g .my) (g .enable) (g .yexp) (s .sprites))
+    ∙ slot-agrees (pointerTime k cycle) (dataTime k cycle) (slotSprite k cycle) (phased k cycle raster (g .my) (g .enable) (g .yexp) (s .sprites))
 
 -- ---- a call
 
-abbrev Fine : Chip → Type 0
-Fine c = Level (c .side .sprites)
+abbrev held : Answer → Flagged
+held r = flagged (r .chip .side .sprites)
 
-abbrev FineAnswer : Answer → Type 0
-FineAnswer a = Fine (a .chip)
+abbrev own : Chip → Flagged
+own c = flagged (c .side .sprites)
 
-level-ticked : (h : Host) (c : Chip) → Fine c → FineAnswer (ticked h c)
-unfolding ticked tickWorld
-level-ticked h c f = either FineAnswer (eqb (tickRefusal h c) 0) (level-turned (timed (c .regs)) (c .side) f) f
+ticked-agrees : (h : Host) (c : Chip) → tickedWas h c (own c) ≡ held (ticked h c)
+unfolding tickedWas ticked tickWorld
+ticked-agrees h c = same-way held (eqb (tickRefusal h c) 0) (answer 0 (tickOf h c)) (answer (tickRefusal h c) c) (turned-agrees (timed (c .regs)) (c .side)) refl
 
-level-ticks : (h : Host) (n : ℕ) (c : Chip) → Fine c → FineAnswer (ticksFrom h n c)
-unfolding ticksFrom
-level-ticks h zero c f = f
-level-ticks h (suc n) c f =
+ticks-agrees : (h : Host) (n : ℕ) (c : Chip) → ticksWas h n c (own c) ≡ held (ticksFrom h n c)
+unfolding ticksWas ticksFrom
+ticks-agrees h zero c = refl
+ticks-agrees h (suc n) c =
     let before = ticksFrom h n c in
-    either FineAnswer (eqb (before .refused) 0) (level-ticked h (before .chip) (level-ticks h n c f)) (level-ticks h n c f)
+    same-way held (eqb (before .refused) 0) (ticked h (before .chip)) before (ap (tickedWas h (before .chip)) (ticks-agrees h n c) ∙ ticked-agrees h (before .chip)) (ticks-agrees h n c)
 
-level-late : (c : Chip) (byte : ℕ) (p : Pending) → Fine c → Fine (lateAt c byte p)
-level-late c byte Nothing f = f
-level-late c byte (At p) f = f
+late-stays : (c : Chip) (byte : ℕ) (p : Pending) → own c ≡ own (lateAt c byte p)
+late-stays c byte Nothing = refl
+late-stays c byte (At p) = refl
 
-level-done : (x : Call) (c : Chip) → Fine c → FineAnswer (done x c)
-unfolding done registerWritten fileWritten expandAt comparesBy control1Written control2Written controlStored controlsPlaced lateTaken
-level-done (tick h) c f = level-ticked h c f
-level-done (ticks h n) c f = level-ticks h n c f
-level-done (write addr v) c f = either Fine (isExpand addr) (level-expand (kindOf (c .side .beam .kind)) v (c .side .beam .cycle) (c .regs .yexp) f) f
-level-done (expand v) c f = level-expand (kindOf (c .side .beam .kind)) v (c .side .beam .cycle) (c .regs .yexp) f
-level-done compares c f = f
-level-done (control-1 v) c f = f
-level-done (control-2 v) c f = f
-level-done (place-controls ctrl1 ctrl2 line) c f = either FineAnswer (ltb 511 line) f f
-level-done (late byte) c f = either FineAnswer (eqb (stateRefusal c) 0) (level-late c byte (c .side .pending .place) f) f
+write-agrees : (c : Chip) (b : Bool) (addr v : ℕ) → cond b (expandWas c v (own c)) (own c) ≡ own (cond b (expandAt c v) (fileWritten c addr v))
+unfolding expandAt fileWritten
+write-agrees c true addr v = expand-agrees (kindOf (c .side .beam .kind)) v (c .side .beam .cycle) (c .regs .yexp) (c .side .sprites)
+write-agrees c false addr v = refl
+
+done-agrees : (x : Call) (c : Chip) → doneWas x c (own c) ≡ held (done x c)
+unfolding doneWas done registerWritten expandAt comparesBy control1Written control2Written controlStored controlsPlaced lateTaken
+done-agrees (tick h) c = ticked-agrees h c
+done-agrees (ticks h n) c = ticks-agrees h n c
+done-agrees (write addr v) c = write-agrees c (isExpand addr) addr v
+done-agrees (expand v) c = expand-agrees (kindOf (c .side .beam .kind)) v (c .side .beam .cycle) (c .regs .yexp) (c .side .sprites)
+done-agrees compares c = refl
+done-agrees (control-1 v) c = refl
+done-agrees (control-2 v) c = refl
+done-agrees (place-controls ctrl1 ctrl2 line) c = either (λ (r : Answer). own c ≡ held r) (ltb 511 line) refl refl
+done-agrees (late byte) c = either (λ (r : Answer). own c ≡ held r) (eqb (stateRefusal c) 0) (late-stays c byte (c .side .pending .place)) refl
 
 -- ---- a run
 
-level-run : (xs : List Call) (c : Chip) → Fine c → Each FineAnswer (run xs c)
-unfolding run
-level-run [] c f = none
-level-run (x ∷ xs) c f = more (level-done x c f) (level-run xs (done x c .chip) (level-done x c f))
+pub where-they-agree : WhereTheyAgree
+unfolding beside asTheMask run
+where-they-agree [] c = refl
+where-they-agree (x ∷ xs) c =
+    let first = done-agrees x c in
+    λ i. first i ∷ (ap (beside xs (done x c .chip)) first ∙ where-they-agree xs (done x c .chip)) i
 
-weaker : {P Q : Answer → Type 0} → ((r : Answer) → P r → Q r) → {rs : List Answer} → Each P rs → Each Q rs
-weaker w none = none
-weaker w (more {r} p ps) = more (w r p) (weaker w ps)
+powered-agrees : (kind : ℕ) → freshWas ≡ own (powered kind)
+unfolding freshWas powered freshSide allFresh
+powered-agrees kind = refl
 
-level-powered : (kind : ℕ) → Fine (powered kind)
-unfolding powered freshSide
-level-powered kind = level-fresh
+pub no-run-changes : NoRunChanges
+no-run-changes kind xs = ap (beside xs (powered kind)) (powered-agrees kind) ∙ where-they-agree xs (powered kind)
 
-pub mask-and-flag-agree : MaskAndFlagAgree
-mask-and-flag-agree kind xs = weaker (λ r f. f .agree) (level-run xs (powered kind) (level-powered kind))
+-- ---- a slot's bytes
+
+open-one : (b low : Bool) (byte : ℕ) → orOpen (not b || b || low) byte ≡ byte
+unfolding orOpen
+open-one true low byte = refl
+open-one false low byte = refl
+
+pub no-byte-changes : NoByteChanges
+unfolding byteOneWas byteOne byteZeroWas byteZero
+no-byte-changes =
+    record {
+      one = λ s pointers k mc low ram rom bank. rw (twice (hasBit (s .dma) k)) (open-one (hasBit (s .dma) k) low _);
+      zero' = λ s pointers k mc low ram rom bank. rw (twice (hasBit (s .dma) k));
+    }

@@ -1,2 +1,2 @@
-pub mod Sprites
+pub mod Steps
 pub mod Agree

@@ -1,1 +1,2 @@
+pub mod Was
 pub mod Agree

@@ -1,1 +1,1 @@
-// The two records of sprite DMA, from power-up on: definitions and theorems alone.
+// The sprites as they were, with a flag each, beside the sprites as they are: definitions and theorems alone.

@@ -118,7 +118,7 @@ fn about(head: [u8; 7]) -> bool {
     if n != 309 {
         return false;
     }
-    let decoded = scene::decode(&body);
+    let decoded = scene::decode_newest(&body);
     let scene = decoded.scene;
     if !scene {
         return false;

@@ -123,7 +123,7 @@ fn four(a: u8, b: u8, c: u8, d: u8) -> u64 {
 fn pace(body: &[u8], head: [u8; 6], steps: &[u8], memories: &[u8])
     requires { ⌜ length (now memories) ≡ 21504 ⌝ ∗ ⌜ length (now steps) ≤ 16384 ⌝ }
 {
-    let decoded = scene::decode(body);
+    let decoded = scene::decode_newest(body);
     let scene = decoded.scene;
     if !scene {
         return;

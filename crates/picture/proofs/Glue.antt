@@ -76,7 +76,7 @@ module _ (p b w : List ℕ) (orders : Orders) (ptrs : ℕ) (ram rom : List ℕ) 
   pub pointed : {p' b' : List ℕ}
       → orders .pointing ≡ true
       → p' ≡ pointersAfter p (orders .sprite) ptrs ram rom bank
-      → b' ≡ byteTwoAfter b (orders .sprite) (eqb (orders .sprite) 0) (orders .mask && orders .flag) (orders .mc) (orders .low) ptrs ram rom bank
+      → b' ≡ byteTwoAfter b (orders .sprite) (eqb (orders .sprite) 0) (orders .mask) (orders .mc) (orders .low) ptrs ram rom bank
       → (p' ≡ slotted p b w orders ptrs ram rom bank .pointers) × ((b' ≡ slotted p b w orders ptrs ram rom bank .bytes) × (w ≡ slotted p b w orders ptrs ram rom bank .words))
   unfolding slotted
   pointed t pointers bytes = (simp (pointers, t), (simp (bytes, t), simp t))
@@ -84,8 +84,8 @@ module _ (p b w : List ℕ) (orders : Orders) (ptrs : ℕ) (ram rom : List ℕ) 
   pub fetched : {b' w' : List ℕ}
       → orders .pointing ≡ false
       → orders .fetching ≡ true
-      → b' ≡ dataAfter p b (orders .sprite) (orders .mask) (orders .flag) (orders .mc) (orders .low) ram rom bank
-      → w' ≡ wordsAfter p b w (orders .sprite) (orders .mask) (orders .flag) (orders .mc) (orders .low) ram rom bank
+      → b' ≡ dataAfter p b (orders .sprite) (orders .mask) (orders .mc) (orders .low) ram rom bank
+      → w' ≡ wordsAfter p b w (orders .sprite) (orders .mask) (orders .mc) (orders .low) ram rom bank
       → (p ≡ slotted p b w orders ptrs ram rom bank .pointers) × ((b' ≡ slotted p b w orders ptrs ram rom bank .bytes) × (w' ≡ slotted p b w orders ptrs ram rom bank .words))
   unfolding slotted
   fetched t u bytes words = (simp (t, u), (simp (bytes, t, u), simp (words, t, u)))

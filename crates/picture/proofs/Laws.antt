@@ -51,13 +51,13 @@ module _ (p b w : List ℕ) (orders : Orders) (ptrs : ℕ) (ram rom : List ℕ) 
   slotted-bytes =
       let Long : Latches → Type 0 = λ x. length (x .bytes) ≡ length b in
       either Long (orders .pointing) (byte-two-length b _ _ _ _ _ _ _ _ _)
-      (either Long (orders .fetching) (data-length p b _ _ _ _ _ _ _ _) refl)
+      (either Long (orders .fetching) (data-length p b _ _ _ _ _ _ _) refl)
 
   pub slotted-words : length (slotted p b w orders ptrs ram rom bank .words) ≡ length w
   unfolding slotted
   slotted-words =
       let Long : Latches → Type 0 = λ x. length (x .words) ≡ length w in
-      either Long (orders .pointing) refl (either Long (orders .fetching) (words-length p b w _ _ _ _ _ _ _ _) refl)
+      either Long (orders .pointing) refl (either Long (orders .fetching) (words-length p b w _ _ _ _ _ _ _) refl)
 
 -- a cycle without a slot
 pub no-slot : (p b w : List ℕ) (orders : Orders) (ptrs : ℕ) (ram rom : List ℕ) (bank : ℕ)

@@ -71,13 +71,13 @@ slotted pointers bytes words orders ptrs ram rom bank =
     cond (orders .pointing)
     (record {
       pointers = pointersAfter pointers (orders .sprite) ptrs ram rom bank;
-      bytes = byteTwoAfter bytes (orders .sprite) (eqb (orders .sprite) 0) (orders .mask && orders .flag) (orders .mc) (orders .low) ptrs ram rom bank;
+      bytes = byteTwoAfter bytes (orders .sprite) (eqb (orders .sprite) 0) (orders .mask) (orders .mc) (orders .low) ptrs ram rom bank;
       words = words;
     })
     (cond (orders .fetching)
     (record {
       pointers = pointers;
-      bytes = dataAfter pointers bytes (orders .sprite) (orders .mask) (orders .flag) (orders .mc) (orders .low) ram rom bank;
-      words = wordsAfter pointers bytes words (orders .sprite) (orders .mask) (orders .flag) (orders .mc) (orders .low) ram rom bank;
+      bytes = dataAfter pointers bytes (orders .sprite) (orders .mask) (orders .mc) (orders .low) ram rom bank;
+      words = wordsAfter pointers bytes words (orders .sprite) (orders .mask) (orders .mc) (orders .low) ram rom bank;
     })
     (record { pointers = pointers; bytes = bytes; words = words }))

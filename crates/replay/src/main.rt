@@ -109,7 +109,7 @@ fn tell(told: Told) -> bool {
 fn answer(call: [u8; 6], body: &[u8], memories: &[u8]) -> bool
     requires { ⌜ length (now memories) ≡ 21504 ⌝ }
 {
-    let decoded = scene::decode(body);
+    let decoded = scene::decode_newest(body);
     let scene = decoded.scene;
     if !scene {
         return false;

@@ -1,9 +1,10 @@
 -- What is saved from a scene's chip is the scene, part by part. Assumes nothing.
 use Prim.Native.Nat.{ℕ, zero, suc, _+_, _*_, _/_, _%_, _<_}
-use mathlib.Core.Path.{_≡_, refl, ap, _∙_}
+use mathlib.Core.Path.{_≡_, refl, sym, ap, _∙_}
 use mathlib.Core.Bool.{Bool, true, _&&_, _||_}
 use mathlib.Core.List.{List, [], _∷_, _++_}
 use native.Mathlib.Omega.{arith}
+use native.Mathlib.Nat.{mod-eq-of-lt}
 use lib.Dec.{eqb, ltb}
 use lib.ListN.{length, getD}
 use borrow.Author.Tests.{ltb-true, eqb-true}
@@ -13,14 +14,14 @@ use mir.Facts.{ofZ-toZ, sfits-toZ}
 use Rattle.laws.specs.Bytes.{lowByte, highByte, word}
 use Rattle.laws.proofs.Choice.{left, right}
 use Rattle.sprites.specs.Sprites.{spriteAt}
-use Rattle.scene.specs.Numbers.{bits, bitBytes, byteAt, longAt, clockAt, clockOf, aecOf}
-use Rattle.scene.specs.Versions.{isNewest}
+use Rattle.scene.specs.Numbers.{bits, bitBytes, longAt, clockAt, clockOf, aecOf}
+use Rattle.versions.specs.Versions.{byteAt, Bytes, isFlag, isNewest}
 use Rattle.scene.specs.Decode as read
-use Rattle.scene.specs.Decode.{beamAt, registersAt, irqAt, borderAt, spritesAt, wordsAt, matrixAt, busAt, penAt, sideAt, pictureAt, chipAt, headFine, isFlag, earlyFlags, spriteFlags, lateFlags, rangesFine, fieldsFine}
+use Rattle.scene.specs.Decode.{beamAt, registersAt, irqAt, borderAt, spritesAt, wordsAt, matrixAt, busAt, penAt, sideAt, pictureAt, chipAt, headFine, earlyFlags, spritesClear, lateFlags, rangesFine, fieldsFine}
 use Rattle.scene.specs.Encode.{headBytes, registerBytes, maskBytes, spriteBytes, spriteRows, entryBytes, restOf, clockBytes, clocksBytes, encoded}
-use Rattle.scene.specs.Saved.{Saved, Bytes}
+use Rattle.scene.specs.Saved.{Saved}
 use Rattle.scene.proofs.Numbers.{low-again, high-again, long-again0, long-again1, long-again2, long-again3, flag-again, count-again, place-again, place-on-line, long-fits, joined-fits, joined0, joined1, joined2, joined3, joined4, joined5, joined6, joined7}
-use Rattle.scene.proofs.Listed.{listing, listed}
+use Rattle.versions.proofs.Listed.{listing, listed}
 
 -- ---- each test of a row of tests
 
@@ -44,7 +45,7 @@ module _ (s : List ℕ) (bytes : Bytes s) (newest : isNewest s ≡ true) (fine :
   -- ---- the tests
 
   abbrev group-row : List Bool
-  group-row = headFine s ∷ earlyFlags s ∷ spriteFlags s ∷ lateFlags s ∷ rangesFine s ∷ []
+  group-row = headFine s ∷ earlyFlags s ∷ spritesClear s ∷ lateFlags s ∷ rangesFine s ∷ []
 
   group : (i : ℕ) → getD group-row i true ≡ true
   group = each-test group-row true fine
@@ -61,11 +62,11 @@ module _ (s : List ℕ) (bytes : Bytes s) (newest : isNewest s ≡ true) (fine :
   early : (i : ℕ) → getD early-row i true ≡ true
   early = each-test early-row true (group 1)
 
-  abbrev dma-row : List Bool
-  dma-row = isFlag s 79 ∷ isFlag s 91 ∷ isFlag s 103 ∷ isFlag s 115 ∷ isFlag s 127 ∷ isFlag s 139 ∷ isFlag s 151 ∷ isFlag s 163 ∷ []
+  abbrev clear-row : List Bool
+  clear-row = eqb (at 79) 0 ∷ eqb (at 91) 0 ∷ eqb (at 103) 0 ∷ eqb (at 115) 0 ∷ eqb (at 127) 0 ∷ eqb (at 139) 0 ∷ eqb (at 151) 0 ∷ eqb (at 163) 0 ∷ []
 
-  dma : (i : ℕ) → getD dma-row i true ≡ true
-  dma = each-test dma-row true (group 2)
+  clear : (i : ℕ) → getD clear-row i true ≡ true
+  clear = each-test clear-row true (group 2)
 
   abbrev late-row : List Bool
   late-row = isFlag s 257 ∷ isFlag s 258 ∷ isFlag s 259 ∷ isFlag s 260 ∷ isFlag s 261 ∷ isFlag s 262 ∷ isFlag s 265 ∷ isFlag s 271 ∷ isFlag s 272 ∷ isFlag s 273 ∷ []
@@ -131,7 +132,7 @@ module _ (s : List ℕ) (bytes : Bytes s) (newest : isNewest s ≡ true) (fine :
   head : headBytes (beamAt s) ≡ listing at 0 14
   head =
       simp
-      (low-at, high-at, eqb-true (at 0) 78 (head-test 0), eqb-true (at 1) 80 (head-test 1), eqb-true (at 2) 83 (head-test 2), eqb-true (at 3) 2 (right (eqb (length s) 309) (eqb (at 3) 2) newest), flag-again (at 8) (early 0), flag-again (at 9) (early 1), flag-again (at 11) (early 2), flag-again (at 12) (early 3), flag-again (at 13) (early 4))
+      (low-at, high-at, eqb-true (at 0) 78 (head-test 0), eqb-true (at 1) 80 (head-test 1), eqb-true (at 2) 83 (head-test 2), eqb-true (at 3) 3 (right (eqb (length s) 309) (eqb (at 3) 3) newest), flag-again (at 8) (early 0), flag-again (at 9) (early 1), flag-again (at 11) (early 2), flag-again (at 12) (early 3), flag-again (at 13) (early 4))
 
   registers : registerBytes (registersAt s) ≡ listing at 14 42
   registers = simp (low-at, high-at)
@@ -153,13 +154,13 @@ module _ (s : List ℕ) (bytes : Bytes s) (newest : isNewest s ≡ true) (fine :
   clocks : clocksBytes (busAt s) (penAt s .forced) ≡ listing at 275 32
   clocks = λ i. clock-at 275 i ++ clock-at 283 i ++ clock-at 291 i ++ clock-at 299 i
 
-  row : (k : ℕ) → isFlag s (k + 4) ≡ true →
+  row : (k : ℕ) → eqb (at (k + 4)) 0 ≡ true →
       spriteBytes (read.spriteFrom s k) (at (k + 1)) (longAt s (k + 5)) (at (k + 9)) (at (k + 10)) (at (k + 11))
       ≡ at k ∷ at (k + 1) ∷ at (k + 2) ∷ at (k + 3) ∷ at (k + 4) ∷ at (k + 5) ∷ at (k + 5 + 1) ∷ at (k + 5 + 2) ∷ at (k + 5 + 3) ∷ at (k + 9) ∷ at (k + 10) ∷ at (k + 11) ∷ []
   row k e =
       λ i.
-      at k ∷ at (k + 1) ∷ at (k + 2) ∷ at (k + 3)
-      ∷ flag-again (at (k + 4)) e i
+      mod-eq-of-lt (bytes k) i ∷ at (k + 1) ∷ at (k + 2) ∷ at (k + 3)
+      ∷ sym (eqb-true (at (k + 4)) 0 e) i
       ∷ long-at0 (k + 5) i
       ∷ long-at1 (k + 5) i
       ∷ long-at2 (k + 5) i
@@ -170,13 +171,13 @@ module _ (s : List ℕ) (bytes : Bytes s) (newest : isNewest s ≡ true) (fine :
   unfolding spriteAt
   sprites =
       λ i.
-      [] ++ row 75 (dma 0) i ++ row 87 (dma 1) i ++ row 99 (dma 2) i ++ row 111 (dma 3) i ++ row 123 (dma 4) i ++ row 135 (dma 5) i ++ row 147 (dma 6) i ++ row 159 (dma 7) i
+      [] ++ row 75 (clear 0) i ++ row 87 (clear 1) i ++ row 99 (clear 2) i ++ row 111 (clear 3) i ++ row 123 (clear 4) i ++ row 135 (clear 5) i ++ row 147 (clear 6) i ++ row 159 (clear 7) i
 
   pub chip-again : encoded (chipAt s) ≡ s
   unfolding encoded
   chip-again =
       let parts : encoded (chipAt s) ≡ listing at 0 309 = λ i. head i ++ registers i ++ masks i ++ sprites i ++ matrix i ++ rest i ++ clocks i ++ (place-again (at 307) i ∷ at 308 ∷ []) in
-      parts ∙ listed 0 s 309 (eqb-true (length s) 309 (left (eqb (length s) 309) (eqb (at 3) 2) newest))
+      parts ∙ listed 0 s 309 (eqb-true (length s) 309 (left (eqb (length s) 309) (eqb (at 3) 3) newest))
 
   -- ---- the chip of a scene can be saved
 
@@ -190,6 +191,18 @@ module _ (s : List ℕ) (bytes : Bytes s) (newest : isNewest s ≡ true) (fine :
   word-fits (suc (suc (suc (suc (suc (suc zero)))))) = long-below 152
   word-fits (suc (suc (suc (suc (suc (suc (suc zero))))))) = long-below 164
   word-fits (suc (suc (suc (suc (suc (suc (suc (suc k)))))))) = omega arith
+
+  number-fits : (k : ℕ) → spriteAt (spritesAt s) k .number < 256
+  unfolding spriteAt
+  number-fits zero = bytes 75
+  number-fits (suc zero) = bytes 87
+  number-fits (suc (suc zero)) = bytes 99
+  number-fits (suc (suc (suc zero))) = bytes 111
+  number-fits (suc (suc (suc (suc zero)))) = bytes 123
+  number-fits (suc (suc (suc (suc (suc zero))))) = bytes 135
+  number-fits (suc (suc (suc (suc (suc (suc zero)))))) = bytes 147
+  number-fits (suc (suc (suc (suc (suc (suc (suc zero))))))) = bytes 159
+  number-fits (suc (suc (suc (suc (suc (suc (suc (suc k)))))))) = omega arith
 
   clock-fits : (k : ℕ) → SFits w64 (clockAt s k)
   unfolding clockOf
@@ -211,6 +224,7 @@ module _ (s : List ℕ) (bytes : Bytes s) (newest : isNewest s ≡ true) (fine :
         cols = refl;
         bg = refl;
         each = refl;
+        number = number-fits;
         matrix = refl;
         pointers = refl;
         bytes = refl;

@@ -2,6 +2,7 @@
 use mathlib.Core.Path.{_≡_, refl, ap}
 use mathlib.Core.List.{List}
 use mathlib.Core.Bool.{true}
+use native.Mathlib.Nat.{mod-eq-of-lt}
 use lib.ListN.{getD}
 use borrow.Author.Tests.{lt-ltb}
 use Rattle.sprites.specs.declared.Sprite.{Sprite}
@@ -10,12 +11,12 @@ use Rattle.sprites.specs.Sprites.{spriteAt, none}
 use Rattle.rows.specs.Pending.{waits}
 use Rattle.chip.specs.declared.Chip.{Chip}
 use Rattle.scene.specs.Numbers.{flagAt}
-use Rattle.scene.specs.Versions.{isNewest}
+use Rattle.versions.specs.Versions.{isNewest}
 use Rattle.scene.specs.Decode.{beamAt, registersAt, irqAt, borderAt, spritesAt, pointersAt, wordsAt, spriteBytesAt, rowsAt, busAt, frameAt, penAt, matrixAt, waitsAt, sideAt, pictureAt, chipAt, fieldsFine}
 use Rattle.scene.specs.Encode.{encoded}
 use Rattle.scene.specs.Saved.{Saved}
 use Rattle.scene.proofs.Numbers.{word-back, flag-back, long-back, clock-back, count-back, flag-fine, place-back, place-fine}
-use Rattle.scene.proofs.Listed.{listed}
+use Rattle.versions.proofs.Listed.{listed}
 
 module _ (c : Chip) (s : Saved c) where
   beam : beamAt (encoded c) ≡ c .side .beam
@@ -36,7 +37,10 @@ module _ (c : Chip) (s : Saved c) where
 
   sprites : spritesAt (encoded c) ≡ c .side .sprites
   unfolding encoded spriteAt
-  sprites = simp flag-back (ap (λ (e : List Sprite). each≔ e (c .side .sprites)) (listed none (c .side .sprites .each) 8 (s .each)))
+  sprites =
+      simp
+      (mod-eq-of-lt (s .number 0), mod-eq-of-lt (s .number 1), mod-eq-of-lt (s .number 2), mod-eq-of-lt (s .number 3), mod-eq-of-lt (s .number 4), mod-eq-of-lt (s .number 5), mod-eq-of-lt (s .number 6), mod-eq-of-lt (s .number 7))
+      (ap (λ (e : List Sprite). each≔ e (c .side .sprites)) (listed none (c .side .sprites .each) 8 (s .each)))
 
   pointers : pointersAt (encoded c) ≡ c .picture .pointers
   unfolding encoded

@@ -4,7 +4,7 @@ use mathlib.Core.Path.{refl}
 use lib.Dec.{lit<}
 use lib.ListN.{getD}
 use Rattle.laws.specs.Lists.{zeros}
-use Rattle.sprites.specs.Sprites.{allFresh}
+use Rattle.sprites.specs.Sprites.{fresh, allFresh, spriteAt}
 use Rattle.arbitration.specs.Bus as Buses
 use Rattle.side.specs.Turn.{freshSide}
 use Rattle.picture.specs.Pen.{freshPen}
@@ -15,6 +15,18 @@ no-word : (n k : ℕ) → getD (zeros n) k 0 < 4294967296
 no-word zero k = lit< tt
 no-word (suc n) zero = lit< tt
 no-word (suc n) (suc k) = no-word n k
+
+numbered : (k : ℕ) → spriteAt allFresh k .number < 256
+unfolding allFresh fresh spriteAt
+numbered zero = lit< tt
+numbered (suc zero) = lit< tt
+numbered (suc (suc zero)) = lit< tt
+numbered (suc (suc (suc zero))) = lit< tt
+numbered (suc (suc (suc (suc zero)))) = lit< tt
+numbered (suc (suc (suc (suc (suc zero))))) = lit< tt
+numbered (suc (suc (suc (suc (suc (suc zero)))))) = lit< tt
+numbered (suc (suc (suc (suc (suc (suc (suc zero))))))) = lit< tt
+numbered (suc (suc (suc (suc (suc (suc (suc (suc k)))))))) = lit< tt
 
 pub powered-is-saved : (kind : ℕ) → Saved (powered kind)
 unfolding powered freshSide freshPen allFresh Buses.fresh
@@ -28,6 +40,7 @@ powered-is-saved kind =
       cols = refl;
       bg = refl;
       each = refl;
+      number = numbered;
       matrix = refl;
       pointers = refl;
       bytes = refl;

@@ -1,31 +1,23 @@
 -- Saving loses nothing and adds nothing, and an older scene is read as the newest that it becomes.
 -- `decoded` is what `decode` answers and `encoded` what `encode` writes, by their promises. Assumes nothing.
-use Prim.Native.Nat.{ℕ}
+use Prim.Native.Nat.{ℕ, _≤_}
 use mathlib.Core.Path.{_≡_, refl, sym, ap, _∙_}
 use mathlib.Core.Bool.{Bool, true, false, _&&_, _||_, cond}
 use mathlib.Core.List.{List}
 use native.Mathlib.Omega.{arith}
 use lib.Dec.{eqb}
 use lib.ListN.{length}
-use borrow.Author.Tests.{eqb-true, ne-eqb}
-use Rattle.laws.proofs.Choice.{left, right, by-test}
+use borrow.Author.Tests.{eq-eqb, ne-eqb}
+use Rattle.laws.proofs.Choice.{either, left, right, by-test}
 use Rattle.chip.specs.declared.Chip.{Chip}
-use Rattle.scene.specs.Numbers.{byteAt}
-use Rattle.scene.specs.Versions.{isVersion, isNewest, grown, next, renewed}
-use Rattle.scene.specs.Decode.{chipAt, fieldsFine, noScene, decoded, decodedFields, decodedNewest}
+use Rattle.versions.specs.Versions.{byteAt, Bytes, isVersion, isNewest, grown, next, spriteFlags, isFlagged, unflagged, third, renewed}
+use Rattle.scene.specs.Decode.{chipAt, headFine, earlyFlags, lateFlags, rangesFine, fieldsFine, olderFine, noScene, decoded, decodedFields, decodedNewest}
 use Rattle.scene.specs.Encode.{encoded}
-use Rattle.scene.specs.Saved.{Saved, Bytes}
-use Rattle.scene.proofs.Renewed.{grown-is, grown-last, grown-fine, next-bytes}
+use Rattle.scene.specs.Saved.{Saved}
+use Rattle.versions.proofs.Listed.{front-listed}
+use Rattle.versions.proofs.Renewed.{has-size, has-number, grown-is, renewed-newest, renewed-bytes, unflagged-is, unflagged-71, first-is-6569}
 use Rattle.scene.proofs.Back as back
 use Rattle.scene.proofs.Again.{chip-again, chip-saved}
-
-has-size : (v size : ℕ) (s : List ℕ) → isVersion v size s ≡ true → length s ≡ size
-has-size v size s e = eqb-true (length s) size (left (eqb (length s) size) (eqb (byteAt s 3) v) e)
-
--- Renewing the newest is the identity.
-pub renewed-newest : (s : List ℕ) → isNewest s ≡ true → renewed s ≡ s
-unfolding renewed next
-renewed-newest s e = rw (ne-eqb (length s) 308 (λ (f : length s ≡ 308). let l : length s ≡ 309 = has-size 2 309 s e in omega arith))
 
 -- A chip that was saved is read back as it was, every field of it, whatever its kind.
 pub decode-of-encode : (c : Chip) → Saved c → decoded (encoded c) ≡ record { scene = true; chip = c }
@@ -41,14 +33,43 @@ newest-exactly s = by-tests (isNewest s) (fieldsFine s)
     by-tests true false = refl
     by-tests false u = refl
 
+-- no test reads the version or what lies behind the bytes of version 1
+grown-fine : (v more : ℕ) (s : List ℕ) → 308 ≤ length s → olderFine (grown v more s) ≡ olderFine s
+grown-fine v more s h = ap (λ (l : List ℕ). olderFine (grown v more l)) (sym (front-listed 0 s 308 h))
+
+unflagged-fine : (s : List ℕ) → length s ≡ 309 → (headFine s && earlyFlags s && true && lateFlags s && rangesFine s) ≡ fieldsFine (unflagged s)
+unfolding unflagged
+unflagged-fine s h = ap (λ (l : List ℕ). fieldsFine (unflagged l)) (front-listed 0 s 309 (omega arith))
+
+-- a wild flag is no scene
+wild : (head early late ranges : Bool) → false ≡ (head && early && false && late && ranges)
+wild true true late ranges = refl
+wild true false late ranges = refl
+wild false early late ranges = refl
+
+second-exactly : (s : List ℕ) → isVersion 2 309 s ≡ true → decodedNewest (third s) .scene ≡ olderFine s
+unfolding third isFlagged
+second-exactly s v =
+    by-test (λ (l : List ℕ). decodedNewest l .scene ≡ olderFine s) (isVersion 2 309 s && spriteFlags s)
+    (λ e. let flags : spriteFlags s ≡ true = right (isVersion 2 309 s) (spriteFlags s) e in
+    newest-exactly (unflagged s) ∙ rw (unflagged-is s (has-size 2 309 s v), flags) (sym (unflagged-fine s (has-size 2 309 s v))))
+    (λ e. let flags : spriteFlags s ≡ false = rw v at e in
+    let number : byteAt s 3 ≡ 2 = has-number 2 309 s v in
+    newest-exactly s ∙ rw (eq-eqb (length s) 309 (has-size 2 309 s v), ne-eqb (byteAt s 3) 3 (λ (f : byteAt s 3 ≡ 3). omega arith), flags) (wild (headFine s) (earlyFlags s) (lateFlags s) (rangesFine s)))
+
+by-second : (s : List ℕ) (b : Bool) → isVersion 2 309 s ≡ b → decodedNewest (third s) .scene ≡ cond b (olderFine s) (isNewest s && fieldsFine s)
+unfolding third isFlagged
+by-second s true v = second-exactly s v
+by-second s false v = rw v (newest-exactly s)
+
 -- A list is a scene where it has a version's length and number and its head, flags, modes and pending place are fine, and nowhere else.
-pub scene-exactly : (s : List ℕ) → decoded s .scene ≡ ((isVersion 1 308 s || isVersion 2 309 s) && fieldsFine s)
+pub scene-exactly : (s : List ℕ) → decoded s .scene ≡ cond (isVersion 1 308 s || isVersion 2 309 s) (olderFine s) (isNewest s && fieldsFine s)
 unfolding decoded renewed next
 scene-exactly s =
-    by-test (λ (l : List ℕ). decodedNewest l .scene ≡ ((isVersion 1 308 s || isVersion 2 309 s) && fieldsFine s)) (isVersion 1 308 s)
+    by-test (λ (l : List ℕ). decodedNewest (third l) .scene ≡ cond (isVersion 1 308 s || isVersion 2 309 s) (olderFine s) (isNewest s && fieldsFine s)) (isVersion 1 308 s)
     (λ e. let l : length s ≡ 308 = has-size 1 308 s e in
-    newest-exactly (grown 2 _ s) ∙ rw (e, grown-is 2 _ s 309 (omega arith) (omega arith), grown-fine 2 _ s (omega arith)))
-    (λ e. newest-exactly s ∙ rw e)
+    second-exactly (grown 2 _ s) (grown-is 2 _ s 309 (omega arith) (omega arith)) ∙ rw e (grown-fine 2 _ s (omega arith)))
+    (λ e. rw e (by-second s (isVersion 2 309 s) refl))
 
 -- what a scene has passed once it is renewed, and the chip that it holds
 module _ (s : List ℕ) (e : decoded s .scene ≡ true) where
@@ -66,10 +87,6 @@ module _ (s : List ℕ) (e : decoded s .scene ≡ true) where
   unfolding decoded decodedNewest decodedFields
   held = rw (newest, fine)
 
-renewed-bytes : (s : List ℕ) → Bytes s → Bytes (renewed s)
-unfolding renewed
-renewed-bytes s = next-bytes 1 308 _ s (omega arith) (omega arith)
-
 -- A scene, read and saved again, is the scene renewed: the same bytes where it is of the newest version.
 pub encode-of-decode : (s : List ℕ) → Bytes s → decoded s .scene ≡ true → encoded (decoded s .chip) ≡ renewed s
 encode-of-decode s b e = ap encoded (held s e) ∙ chip-again (renewed s) (renewed-bytes s b) (newest s e) (fine s e)
@@ -80,6 +97,21 @@ decoded-is-saved s b e = rw (held s e) (chip-saved (renewed s) (renewed-bytes s 
 
 -- A scene of version 1 is read as the chip of its renewed bytes, and that is a 6569.
 pub version-1-is-6569 : (s : List ℕ) → isVersion 1 308 s ≡ true → decoded s .scene ≡ true → (decoded s .chip ≡ chipAt (renewed s)) × (chipAt (renewed s) .side .beam .kind ≡ 0)
-unfolding renewed next
-version-1-is-6569 s v e =
-    (held s e, rw v (grown-last 2 _ s 308 (omega arith) (has-size 1 308 s v)))
+version-1-is-6569 s v e = (held s e, first-is-6569 s v)
+
+-- 02 (ix): of a scene with a flag for each sprite the mask is taken, and the flags are not looked at: any two sets of them are the same chip.
+pub flags-ignored : (s t : List ℕ) → isFlagged s ≡ true → isFlagged t ≡ true → unflagged s ≡ unflagged t → decoded s ≡ decoded t
+unfolding decoded renewed next third isFlagged
+flags-ignored s t f g e = second s f ∙ ap decodedNewest e ∙ sym (second t g)
+  where
+    second : (l : List ℕ) → isFlagged l ≡ true → decoded l ≡ decodedNewest (unflagged l)
+    second l f =
+        let size : length l ≡ 309 = has-size 2 309 l (left (isVersion 2 309 l) (spriteFlags l) f) in
+        rw (ne-eqb (length l) 308 (λ (x : length l ≡ 308). omega arith), f)
+
+pub by-the-mask : (s : List ℕ) → isVersion 2 309 s ≡ true → decoded s .scene ≡ true → decoded s .chip .side .sprites .dma ≡ byteAt s 71
+unfolding renewed next third
+by-the-mask s v e =
+    let size : length s ≡ 309 = has-size 2 309 s v in
+    let kept : byteAt (third s) 71 ≡ byteAt s 71 = either (λ (l : List ℕ). byteAt l 71 ≡ byteAt s 71) (isFlagged s) (unflagged-71 s size) refl in
+    ap (λ (c : Chip). c .side .sprites .dma) (held s e) ∙ rw (ne-eqb (length s) 308 (λ (f : length s ≡ 308). omega arith)) kept

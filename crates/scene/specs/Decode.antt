@@ -20,8 +20,8 @@ use Rattle.chip.specs.declared.Picture.{Picture}
 use Rattle.chip.specs.declared.Chip.{Chip}
 use Rattle.chip.specs.Chip.{powered}
 use Rattle.scene.specs.declared.Decoded.{Decoded}
-use Rattle.scene.specs.Numbers.{byteAt, wordAt, longAt, clockAt, flagAt, aecOf, pendingOf}
-use Rattle.scene.specs.Versions.{isNewest, renewed}
+use Rattle.scene.specs.Numbers.{wordAt, longAt, clockAt, flagAt, aecOf, pendingOf}
+use Rattle.versions.specs.Versions.{byteAt, isFlag, spriteFlags, isNewest, renewed}
 
 abbrev pub eightAt : List ℕ → ℕ → List ℕ
 eightAt s i =
@@ -86,7 +86,7 @@ borderAt s =
 
 -- a sprite, twelve bytes from i: its pointer, its word and its bytes go to the picture
 abbrev pub spriteFrom : List ℕ → ℕ → Sprite
-spriteFrom s i = record { number = byteAt s i; mc = byteAt s (i + 2); base = byteAt s (i + 3); dma = flagAt s (i + 4) }
+spriteFrom s i = record { number = byteAt s i; mc = byteAt s (i + 2); base = byteAt s (i + 3) }
 
 -- sprite masks from 69, and eight sprites from 75
 abbrev pub spritesAt : List ℕ → Sprites
@@ -197,16 +197,14 @@ chipAt s = record { regs = registersAt s; side = sideAt s; picture = pictureAt s
 abbrev pub headFine : List ℕ → Bool
 headFine s = eqb (byteAt s 0) 78 && eqb (byteAt s 1) 80 && eqb (byteAt s 2) 83
 
-abbrev pub isFlag : List ℕ → ℕ → Bool
-isFlag s i = ltb (byteAt s i) 2
-
 abbrev pub earlyFlags : List ℕ → Bool
 earlyFlags s =
     isFlag s 8 && isFlag s 9 && isFlag s 11 && isFlag s 12 && isFlag s 13 && isFlag s 58 && isFlag s 59 && isFlag s 60 && isFlag s 61 && isFlag s 62
 
-abbrev pub spriteFlags : List ℕ → Bool
-spriteFlags s =
-    isFlag s 79 && isFlag s 91 && isFlag s 103 && isFlag s 115 && isFlag s 127 && isFlag s 139 && isFlag s 151 && isFlag s 163
+-- 02 (ix): what was a sprite's flag is 0
+abbrev pub spritesClear : List ℕ → Bool
+spritesClear s =
+    eqb (byteAt s 79) 0 && eqb (byteAt s 91) 0 && eqb (byteAt s 103) 0 && eqb (byteAt s 115) 0 && eqb (byteAt s 127) 0 && eqb (byteAt s 139) 0 && eqb (byteAt s 151) 0 && eqb (byteAt s 163) 0
 
 abbrev pub lateFlags : List ℕ → Bool
 lateFlags s =
@@ -216,7 +214,11 @@ abbrev pub rangesFine : List ℕ → Bool
 rangesFine s = ltb (byteAt s 263) 8 && ltb (byteAt s 264) 8 && (eqb (byteAt s 307) 255 || ltb (byteAt s 307) 40)
 
 abbrev pub fieldsFine : List ℕ → Bool
-fieldsFine s = headFine s && earlyFlags s && spriteFlags s && lateFlags s && rangesFine s
+fieldsFine s = headFine s && earlyFlags s && spritesClear s && lateFlags s && rangesFine s
+
+-- of versions 1 and 2: a sprite's flag is 0 or 1
+abbrev pub olderFine : List ℕ → Bool
+olderFine s = headFine s && earlyFlags s && spriteFlags s && lateFlags s && rangesFine s
 
 abbrev pub noScene : Decoded
 noScene = record { scene = false; chip = powered 0 }
@@ -227,6 +229,6 @@ decodedFields s = cond (fieldsFine s) (record { scene = true; chip = chipAt s })
 unfoldable pub decodedNewest : List ℕ → Decoded
 decodedNewest s = cond (isNewest s) (decodedFields s) noScene
 
--- 02 (iv): every version is read
+-- 02 (iv), 02 (ix): every version is read
 unfoldable pub decoded : List ℕ → Decoded
 decoded s = decodedNewest (renewed s)

@@ -1,10 +1,9 @@
 -- The 309 bytes of a chip, part by part in the order of FORMATS, Scene: the newest version.
 use Prim.Native.Nat.{ℕ, zero, suc, _+_, _*_, _/_, _%_}
-use mathlib.Core.Path.{_≡_}
 use mathlib.Core.Bool.{Bool}
 use mathlib.Core.List.{List, [], _∷_, _++_}
 use lib.IntN.{ℤ}
-use lib.ListN.{length, take, getD}
+use lib.ListN.{getD}
 use Rattle.laws.specs.Bytes.{lowByte, highByte}
 use Rattle.registers.specs.declared.Irq.{Irq}
 use Rattle.registers.specs.declared.Registers.{Registers}
@@ -26,7 +25,7 @@ use Rattle.scene.specs.Numbers.{bits, bitBytes, countByte, flagByte, pla
 -- head: 'N' 'P' 'S' and the version; then timing
 abbrev pub headBytes : Beam → List ℕ
 headBytes b =
-    78 ∷ 80 ∷ 83 ∷ 2
+    78 ∷ 80 ∷ 83 ∷ 3
     ∷ lowByte (b .cycle) ∷ highByte (b .cycle) ∷ lowByte (b .raster) ∷ highByte (b .raster)
     ∷ flagByte (b .den) ∷ flagByte (b .rsel) ∷ b .yscroll ∷ flagByte (b .bad) ∷ flagByte (b .rising) ∷ flagByte (b .ba) ∷ []
 
@@ -49,10 +48,10 @@ maskBytes i b s =
     ∷ b .part40 ∷ b .part38 ∷ lowByte (b .top) ∷ highByte (b .top) ∷ lowByte (b .bottom) ∷ highByte (b .bottom)
     ∷ s .flip ∷ s .clear ∷ s .dma ∷ s .prev ∷ s .display ∷ s .vmatch ∷ []
 
--- a sprite: number, pointer, MC, MC base, DMA flag, word, three bytes
+-- a sprite: number, pointer, MC, MC base, 0 (02 (ix)), word, three bytes
 abbrev pub spriteBytes : Sprite → ℕ → ℕ → ℕ → ℕ → ℕ → List ℕ
 spriteBytes s pointer w b0 b1 b2 =
-    s .number ∷ pointer ∷ s .mc ∷ s .base ∷ flagByte (s .dma)
+    s .number % 256 ∷ pointer ∷ s .mc ∷ s .base ∷ 0
     ∷ w % 256 ∷ w / 256 % 256 ∷ w / 65536 % 256 ∷ w / 16777216 % 256 ∷ b0 ∷ b1 ∷ b2 ∷ []
 
 abbrev pub spriteRow : Sprites → Picture → ℕ → List ℕ
@@ -102,8 +101,3 @@ encoded c =
     ++ restOf (c .side) (c .picture .pen)
     ++ clocksBytes (c .side .bus) (c .picture .pen .forced)
     ++ tailBytes (c .side .pending .place) (c .side .beam .kind)
-
--- How a part is written: it stands from `at` to `end` behind what was there, and the whole is as long as before. What lies behind `end` is left open.
-pub record Put (before after : List ℕ) (at end : ℕ) (part : List ℕ) : Type 0 where
-  pub size : length after ≡ length before
-  pub front : take end after ≡ take at before ++ part

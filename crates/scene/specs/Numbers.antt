@@ -4,10 +4,10 @@ use mathlib.Core.Bool.{Bool, cond}
 use mathlib.Core.List.{List, [], _∷_}
 use lib.Dec.{eqb}
 use lib.IntN.{ℤ}
-use lib.ListN.{getD}
 use mir.Syntax.{w8, w64}
 use mir.Val.{toZ, ofZ, boolByte}
 use Rattle.laws.specs.Bytes.{word}
+use Rattle.versions.specs.Versions.{byteAt}
 use Rattle.rows.specs.declared.Pending.{Pending}
 use Rattle.rows.specs.declared.Pending.the-variants.{Nothing, At}
 
@@ -52,9 +52,6 @@ unfoldable pub pendingOf : ℕ → Pending
 pendingOf b = cond (eqb b 255) Nothing (At b)
 
 -- a field of a list of bytes, by its place
-abbrev pub byteAt : List ℕ → ℕ → ℕ
-byteAt s i = getD s i 0
-
 abbrev pub wordAt : List ℕ → ℕ → ℕ
 wordAt s i = word (byteAt s i) (byteAt s (i + 1))
 

@@ -1,15 +1,14 @@
 -- Which chips a scene can hold, and what a list of bytes is.
 use Prim.Native.Nat.{ℕ, _<_}
 use mathlib.Core.Path.{_≡_}
-use mathlib.Core.List.{List}
 use lib.ListN.{length, getD}
 use mir.Syntax.{w8, w64}
 use mir.Val.{SFits}
+use Rattle.sprites.specs.Sprites.{spriteAt}
 use Rattle.rows.specs.Pending.{Pends}
 use Rattle.chip.specs.declared.Chip.{Chip}
-use Rattle.scene.specs.Numbers.{byteAt}
 
--- Both modes are below 8 and the pending place is on the line. The rest holds of every chip that a program has, by its types: its arrays have their lengths,
+-- Both modes are below 8, the pending place is on the line and a sprite's number is one byte. The rest holds of every chip that a program has, by its types: its arrays have their lengths,
 -- a sprite's word fits 32 bits, the AEC counter 8 and a clock 64. (The other numbers come back whatever they are, the kind too.)
 pub record Saved (c : Chip) : Type 0 where
   pub mode : c .picture .pen .mode < 8
@@ -20,6 +19,7 @@ pub record Saved (c : Chip) : Type 0 where
   pub cols : length (c .regs .cols) ≡ 8
   pub bg : length (c .regs .bg) ≡ 4
   pub each : length (c .side .sprites .each) ≡ 8
+  pub number : (k : ℕ) → spriteAt (c .side .sprites) k .number < 256
   pub matrix : length (c .picture .matrix) ≡ 40
   pub pointers : length (c .picture .pointers) ≡ 8
   pub bytes : length (c .picture .bytes) ≡ 24
@@ -30,7 +30,3 @@ pub record Saved (c : Chip) : Type 0 where
   pub rise : SFits w64 (c .side .bus .rise)
   pub forced : SFits w64 (c .picture .pen .forced)
   pub clock : SFits w64 (c .side .bus .clock)
-
--- every element below 256
-abbrev pub Bytes : List ℕ → Type 0
-Bytes s = (i : ℕ) → byteAt s i < 256

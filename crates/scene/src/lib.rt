@@ -1,4 +1,4 @@
-// A saved chip: its 309 bytes, and the chip that bytes hold. The format is `Scene`: version 2 is written, and version 1 is read too.
+// A saved chip: its 309 bytes, and the chip that bytes hold. The format is `Scene`: version 3 is written, and versions 1 and 2 are read too.
 // Every field has a fixed place, numbers lie low byte first, and a flag is 0 or 1.
 ghost use mathlib.Core.Path.{_≡_};
 ghost use mathlib.Core.List.{_∷_, []};
@@ -6,9 +6,10 @@ ghost use Prim.Native.Nat.{_+_, _*_, _/_, _%_, _≤_, _<_};
 ghost use lib.ListN.{length};
 ghost use Rattle.laws.specs.Bytes.{lowByte, highByte};
 ghost use Rattle.scene.specs.Numbers.{bits, clockOf, countByte, aecOf, placeByte, pendingOf, wordAt, longAt, clockAt};
-ghost use Rattle.scene.specs.Versions.{isVersion, grown};
-ghost use Rattle.scene.specs.Decode.{eightAt, beamAt, registersAt, irqAt, borderAt, spriteFrom, spritesAt, pointersAt, wordsAt, spriteBytesAt, matrixAt, rowsAt, busAt, frameAt, penAt, waitsAt, sideAt, pictureAt, chipAt, headFine, earlyFlags, spriteFlags, lateFlags, rangesFine, fieldsFine, noScene, decodedFields, decodedNewest, decoded};
-ghost use Rattle.scene.specs.Encode.{headBytes, registerBytes, maskBytes, spriteBytes, spriteRow, spriteRows, entryBytes, restOf, clockBytes, clocksBytes, restBytes, tailBytes, encoded, Put};
+ghost use Rattle.versions.specs.Put.{Put};
+ghost use Rattle.versions.specs.Versions.{third};
+ghost use Rattle.scene.specs.Decode.{eightAt, beamAt, registersAt, irqAt, borderAt, spriteFrom, spritesAt, pointersAt, wordsAt, spriteBytesAt, matrixAt, rowsAt, busAt, frameAt, penAt, waitsAt, sideAt, pictureAt, chipAt, headFine, earlyFlags, spritesClear, lateFlags, rangesFine, fieldsFine, noScene, decodedFields, decodedNewest, decoded};
+ghost use Rattle.scene.specs.Encode.{headBytes, registerBytes, maskBytes, spriteBytes, spriteRow, spriteRows, entryBytes, restOf, clockBytes, clocksBytes, restBytes, tailBytes, encoded};
 use arbitration::Bus;
 use border::Border;
 use chip::Chip;
@@ -43,6 +44,12 @@ fn long(a: u8, b: u8, c: u8, d: u8) -> u32
     ensures { λ r. ⌜ r ≡ a + b * 256 + c * 65536 + d * 16777216 ⌝ }
 {
     a as u32 + b as u32 * 256 + c as u32 * 65536 + d as u32 * 16777216
+}
+
+fn wide(b: u8) -> u32
+    ensures { λ r. ⌜ r ≡ b ⌝ }
+{
+    b as u32
 }
 
 // A clock as its 64 bits. A cast keeps the number, so one below zero goes by its complement.
@@ -216,10 +223,9 @@ fn sprite_at(bytes: &[u8], at: usize) -> Sprite
     ensures { λ r. ⌜ r ≡ spriteFrom (now (bytes .entry)) at ⌝ }
 {
     Sprite {
-        number: bytes[at],
+        number: wide(bytes[at]),
         mc: bytes[at + 2],
         base: bytes[at + 3],
-        dma: bytes[at + 4] == 1,
     }
 }
 
@@ -442,18 +448,18 @@ fn early_flags(bytes: &[u8]) -> bool
         & (bytes[62] < 2)
 }
 
-fn sprite_flags(bytes: &[u8]) -> bool
+fn sprites_clear(bytes: &[u8]) -> bool
     requires { ⌜ length (now bytes) ≡ 309 ⌝ }
-    ensures { λ r. ⌜ r ≡ spriteFlags (now (bytes .entry)) ⌝ }
+    ensures { λ r. ⌜ r ≡ spritesClear (now (bytes .entry)) ⌝ }
 {
-    (bytes[79] < 2)
-        & (bytes[91] < 2)
-        & (bytes[103] < 2)
-        & (bytes[115] < 2)
-        & (bytes[127] < 2)
-        & (bytes[139] < 2)
-        & (bytes[151] < 2)
-        & (bytes[163] < 2)
+    (bytes[79] == 0)
+        & (bytes[91] == 0)
+        & (bytes[103] == 0)
+        & (bytes[115] == 0)
+        & (bytes[127] == 0)
+        & (bytes[139] == 0)
+        & (bytes[151] == 0)
+        & (bytes[163] == 0)
 }
 
 fn late_flags(bytes: &[u8]) -> bool
@@ -486,7 +492,7 @@ fn fields_fine(bytes: &[u8]) -> bool
 {
     let head = head_fine(bytes);
     let early = early_flags(bytes);
-    let middle = sprite_flags(bytes);
+    let middle = sprites_clear(bytes);
     let late = late_flags(bytes);
     let ranges = ranges_fine(bytes);
     head & early & middle & late & ranges
@@ -531,48 +537,41 @@ fn decode_fields(bytes: &[u8]) -> Decoded
 
 // ---- versions
 
-fn is_version(bytes: &[u8], version: u8, size: usize) -> bool
-    requires { ⌜ 3 < size ⌝ }
-    ensures { λ r. ⌜ r ≡ isVersion version size (now (bytes .entry)) ⌝ }
-{
-    if bytes.len() != size {
-        return false;
-    }
-    bytes[3] == version
-}
-
-// The bytes of an older scene as those of the next version, which has one more.
-fn grow(bytes: &[u8], out: &mut [u8], version: u8, more: u8)
-    requires { ⌜ 3 < length (now bytes) ⌝ ∗ ⌜ length (now out) ≡ length (now bytes) + 1 ⌝ }
-    ensures { λ r. ⌜ now (out .exit) ≡ grown version more (now (bytes .entry)) ⌝ }
-{
-    let last = [more];
-    put(out, 0, bytes);
-    put(out, bytes.len(), &last);
-    out[3] = version;
-}
-
-fn decode_newest(bytes: &[u8]) -> Decoded
+// The newest version alone.
+pub fn decode_newest(bytes: &[u8]) -> Decoded
     ensures { λ r. ⌜ r ≡ decodedNewest (now (bytes .entry)) ⌝ }
 {
-    let newest = is_version(bytes, 2, 309);
+    let newest = versions::is_version(bytes, 3, 309);
     if newest {
         return decode_fields(bytes);
     }
     no_scene()
 }
 
+// Version 2 has a flag for each sprite: the mask decides, and they go.
+fn decode_second(bytes: &[u8]) -> Decoded
+    ensures { λ r. ⌜ r ≡ decodedNewest (third (now (bytes .entry))) ⌝ }
+{
+    let flagged = versions::is_flagged(bytes);
+    if flagged {
+        let mut third = [0u8; 309];
+        versions::unflag(bytes, &mut third);
+        return decode_newest(&third);
+    }
+    decode_newest(bytes)
+}
+
 // Version 1 has no kind: it is the 6569's, 0.
 pub fn decode(bytes: &[u8]) -> Decoded
     ensures { λ r. ⌜ r ≡ decoded (now (bytes .entry)) ⌝ }
 {
-    let first = is_version(bytes, 1, 308);
+    let first = versions::is_version(bytes, 1, 308);
     if first {
         let mut second = [0u8; 309];
-        grow(bytes, &mut second, 2, 0);
-        return decode_newest(&second);
+        versions::grow(bytes, &mut second, 2, 0);
+        return decode_second(&second);
     }
-    decode_newest(bytes)
+    decode_second(bytes)
 }
 
 // ---- fields to bytes
@@ -584,7 +583,7 @@ fn head_bytes(b: Beam) -> [u8; 14]
         b'N',
         b'P',
         b'S',
-        2,
+        3,
         (b.cycle % 256) as u8,
         (b.cycle / 256) as u8,
         (b.raster % 256) as u8,
@@ -684,11 +683,11 @@ fn sprite_bytes(s: Sprite, pointer: u8, word: u32, b0: u8, b1: u8, b2: u8) -> [u
     ensures { λ r. ⌜ r ≡ spriteBytes s pointer word b0 b1 b2 ⌝ }
 {
     [
-        s.number,
+        (s.number % 256) as u8,
         pointer,
         s.mc,
         s.base,
-        s.dma as u8,
+        0,
         (word % 256) as u8,
         (word / 256 % 256) as u8,
         (word / 65536 % 256) as u8,
@@ -749,17 +748,6 @@ fn clock_bytes(x: i64) -> [u8; 8]
 
 // ---- the bytes of a chip: each part follows the one before it, and what stood after it is written later
 
-fn put(out: &mut [u8], at: usize, part: &[u8])
-    requires { ⌜ at + length (now part) ≤ length (now out) ⌝ }
-    ensures { λ r. ⌜ Put (now (out .entry)) (now (out .exit)) at (at + length (now (part .entry))) (now (part .entry)) ⌝ }
-{
-    let mut i = 0usize;
-    while i < part.len() {
-        out[at + i] = part[i];
-        i = i + 1;
-    }
-}
-
 fn sprite_row(s: Sprites, p: Picture, k: usize) -> [u8; 12]
     requires { ⌜ k < 8 ⌝ }
     ensures { λ r. ⌜ r ≡ spriteRow s p k ⌝ }
@@ -783,7 +771,7 @@ fn put_sprite(out: &mut [u8], k: usize, s: Sprites, p: Picture)
     ensures { λ r. ⌜ Put (now (out .entry)) (now (out .exit)) (75 + 12 * k) (75 + 12 * k + 12) (spriteRow s p k) ⌝ }
 {
     let row = sprite_row(s, p, k);
-    put(out, 75 + 12 * k, &row);
+    versions::put(out, 75 + 12 * k, &row);
 }
 
 fn put_sprites(out: &mut [u8], s: Sprites, p: Picture)
@@ -802,7 +790,7 @@ fn put_word(out: &mut [u8], at: usize, x: u16)
     ensures { λ r. ⌜ Put (now (out .entry)) (now (out .exit)) at (at + 2) (lowByte x ∷ highByte x ∷ []) ⌝ }
 {
     let pair = [(x % 256) as u8, (x / 256) as u8];
-    put(out, at, &pair);
+    versions::put(out, at, &pair);
 }
 
 fn put_matrix(out: &mut [u8], matrix: [u16; 40])
@@ -821,7 +809,7 @@ fn put_clock(out: &mut [u8], at: usize, x: i64)
     ensures { λ r. ⌜ Put (now (out .entry)) (now (out .exit)) at (at + 8) (clockBytes x) ⌝ }
 {
     let part = clock_bytes(x);
-    put(out, at, &part);
+    versions::put(out, at, &part);
 }
 
 fn put_clocks(out: &mut [u8], bus: Bus, forced: i64)
@@ -839,7 +827,7 @@ fn put_head(out: &mut [u8], beam: Beam)
     ensures { λ r. ⌜ Put (now (out .entry)) (now (out .exit)) 0 14 (headBytes beam) ⌝ }
 {
     let part = head_bytes(beam);
-    put(out, 0, &part);
+    versions::put(out, 0, &part);
 }
 
 fn put_registers(out: &mut [u8], regs: Registers)
@@ -847,7 +835,7 @@ fn put_registers(out: &mut [u8], regs: Registers)
     ensures { λ r. ⌜ Put (now (out .entry)) (now (out .exit)) 14 56 (registerBytes regs) ⌝ }
 {
     let part = register_bytes(regs);
-    put(out, 14, &part);
+    versions::put(out, 14, &part);
 }
 
 fn put_masks(out: &mut [u8], irq: Irq, border: Border, sprites: Sprites)
@@ -855,7 +843,7 @@ fn put_masks(out: &mut [u8], irq: Irq, border: Border, sprites: Sprites)
     ensures { λ r. ⌜ Put (now (out .entry)) (now (out .exit)) 56 75 (maskBytes irq border sprites) ⌝ }
 {
     let part = mask_bytes(irq, border, sprites);
-    put(out, 56, &part);
+    versions::put(out, 56, &part);
 }
 
 fn put_rest(out: &mut [u8], s: Side, pen: Pen)
@@ -868,7 +856,7 @@ fn put_rest(out: &mut [u8], s: Side, pen: Pen)
     let frame = s.frame;
     let aec = count_byte(bus.aec);
     let part = rest_bytes(rows, bus, s.changed, pen, beam.latch, frame, aec);
-    put(out, 251, &part);
+    versions::put(out, 251, &part);
 }
 
 fn put_tail(out: &mut [u8], pending: Pending, kind: u8)
@@ -876,7 +864,7 @@ fn put_tail(out: &mut [u8], pending: Pending, kind: u8)
     ensures { λ r. ⌜ Put (now (out .entry)) (now (out .exit)) 307 309 (tailBytes pending kind) ⌝ }
 {
     let part = [place_byte(pending), kind];
-    put(out, 307, &part);
+    versions::put(out, 307, &part);
 }
 
 fn fill(chip: Chip, out: &mut [u8])

@@ -95,7 +95,6 @@ quiet g s =
         pointing = false;
         fetching = false;
         mask = hasBit (s .sprites .dma) 0;
-        flag = spriteAt (s .sprites) 0 .dma;
         mc = spriteAt (s .sprites) 0 .mc;
         low = s .bus .aeclow;
       };

@@ -77,7 +77,6 @@ pub turn-glue : (g : Controls) (s : Side) {clk bus : Bus} {cycle asking n : ℕ}
         pointing = pointing;
         fetching = fetching;
         mask = mask;
-        flag = sprite .dma;
         mc = sprite .mc;
         low = low;
       };

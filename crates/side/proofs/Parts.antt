@@ -119,7 +119,6 @@ pub lit-glue : (g : Controls) (s : Side) {clk bus : Bus} {cycle : ℕ} {latch as
         pointing = false;
         fetching = false;
         mask = mask;
-        flag = sprite .dma;
         mc = sprite .mc;
         low = s .bus .aeclow;
       };

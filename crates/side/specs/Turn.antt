@@ -91,7 +91,6 @@ turned g s =
         pointing = pointing;
         fetching = fetching;
         mask = hasBit (sprites .dma) n;
-        flag = spriteAt sprites n .dma;
         mc = spriteAt sprites n .mc;
         -- tick 5 and 8: most slots come before their cycle's arbitration
         low = pick (slotAfterBus k cycle) (bus .aeclow) (s .bus .aeclow);

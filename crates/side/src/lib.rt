@@ -54,7 +54,6 @@ pub struct Orders {
     pub pointing: bool,
     pub fetching: bool,
     pub mask: bool,
-    pub flag: bool,
     pub mc: u8,
     pub low: bool,
 }
@@ -392,7 +391,6 @@ pub fn turn_lit(side: Side, g: Controls) -> Turned
         pointing: false,
         fetching: false,
         mask: mask,
-        flag: sprite.dma,
         mc: sprite.mc,
         low: bus0.aeclow,
     };
@@ -486,7 +484,6 @@ pub fn turn_dark(side: Side, g: Controls) -> Turned
         pointing: pointing,
         fetching: fetching,
         mask: mask,
-        flag: sprite.dma,
         mc: sprite.mc,
         low: low,
     };

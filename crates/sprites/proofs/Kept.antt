@@ -15,7 +15,7 @@ use Rattle.laws.proofs.Choice.{either, left, right}
 use Rattle.schedule.specs.Kind.{Kind}
 use Rattle.sprites.specs.declared.Sprite.{Sprite}
 use Rattle.sprites.specs.declared.Sprites.{Sprites}
-use Rattle.sprites.specs.Sprites.{fresh, allFresh, none, spriteAt, spriteAt≔, upTo, inEither, inBoth, crunched, nextBase, stepped, stepOne, mcbaseStepped, starts, dmaBegun, startOne, startAt, started, firstPhased, secondPhased, loadOne, loaded, showOne, showAt, shown, mcLoaded, expandWritten, fetches, fetched}
+use Rattle.sprites.specs.Sprites.{fresh, allFresh, none, spriteAt, spriteAt≔, upTo, inEither, inBoth, crunched, nextBase, stepOne, mcbaseStepped, starts, dmaBegun, startOne, startAt, started, firstPhased, secondPhased, loadOne, loaded, showOne, showAt, shown, mcLoaded, expandWritten, fetched}
 use Rattle.sprites.specs.Fine.{FineSprite, FineSprites, fineOne, fineTest}
 
 -- the masks do not matter
@@ -59,13 +59,11 @@ unfolding nextBase
 base-small flip clearing base mc b m =
     either (λ (n : ℕ). n < 64) flip (either (λ (n : ℕ). n < 64) clearing (crunched-small base mc) m) b
 
-fine-stepped : (flip clearing : Bool) {k : ℕ} {t : Sprite} → FineSprite k t → FineSprite k (stepped flip clearing t)
-unfolding stepped
-fine-stepped flip clearing {k} {t} f = record { number = f .number; mc = f .mc; base = base-small flip clearing (t .base) (t .mc) (f .base) (f .mc) }
-
 fine-step-one : (k : ℕ) (s : Sprites) → FineSprites s → FineSprites (stepOne k s)
 unfolding stepOne
-fine-step-one k s h = as-each refl (changed k (fine-stepped _ _) h)
+fine-step-one k s h =
+    as-each refl
+    (changed k (λ f. record { number = f .number; mc = f .mc; base = base-small (hasBit (s .flip) k) (hasBit (s .clear) k) (spriteAt s k .base) (spriteAt s k .mc) (f .base) (f .mc) }) h)
 
 pub fine-mcbase : {s : Sprites} → FineSprites s → FineSprites (mcbaseStepped s)
 unfolding mcbaseStepped
@@ -108,7 +106,7 @@ fine-expand k value cycle old h = as-each refl h
 pub fine-fetched : (k bytes : ℕ) {s : Sprites} → FineSprites s → FineSprites (fetched k bytes s)
 unfolding fetched
 fine-fetched k bytes {s} h =
-    either FineSprites (fetches k s) (changed k (λ f. record { number = f .number; mc = omega arith; base = f .base }) h) h
+    either FineSprites (hasBit (s .dma) k) (changed k (λ f. record { number = f .number; mc = omega arith; base = f .base }) h) h
 
 fine-one-true : (k : ℕ) (t : Sprite) → FineSprite k t → fineOne k t ≡ true
 fine-one-true k t f = rw (eq-eqb (t .number) k (f .number), le-leb (t .mc) 63 (omega (arith, f .mc)), le-leb (t .base) 63 (omega (arith, f .base)))

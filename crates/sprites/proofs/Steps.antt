@@ -1,36 +1,26 @@
--- The two ways of one sprite's MCBASE step, a slot's bytes, and the last of the eight. Assumes nothing.
+-- A slot's bytes, and the last of the eight. Assumes nothing.
 use mathlib.Core.Path.{_≡_}
-use mathlib.Core.Bool.{Bool, true, false, _&&_}
+use mathlib.Core.Bool.{Bool, true, false}
 use mathlib.Core.List.{[], _∷_}
 use Prim.Native.Nat.{ℕ, _+_, _%_, _<_}
 use native.Mathlib.Omega.{arith}
 use lib.Dec.{eqb, eqb→eq}
 use Rattle.laws.proofs.Switch.{None, ones, rest}
-use Rattle.laws.specs.Bits.{hasBit, withoutBit}
-use Rattle.sprites.specs.declared.Sprite.{Sprite}
+use Rattle.laws.specs.Bits.{hasBit}
 use Rattle.sprites.specs.declared.Sprites.{Sprites}
-use Rattle.sprites.specs.Set.{dma≔, sprite-mc≔}
-use Rattle.sprites.specs.Sprites.{stepped, spriteAt, spriteAt≔, stepOne, fetches, fetched}
-
-module _ (s : Sprites) (k : ℕ) {flip clearing : Bool} {t : Sprite} (f : flip ≡ hasBit (s .flip) k) (g : clearing ≡ hasBit (s .clear) k) (e : t ≡ stepped flip clearing (spriteAt s k)) where
-  pub on : t .dma ≡ true → spriteAt≔ k t s ≡ stepOne k s
-  unfolding stepOne
-  on d = rw (← f, ← g, ← e, d)
-
-  pub off : t .dma ≡ false → dma≔ (withoutBit (s .dma) k) (spriteAt≔ k t s) ≡ stepOne k s
-  unfolding stepOne
-  off d = rw (← f, ← g, ← e, d)
+use Rattle.sprites.specs.Set.{sprite-mc≔}
+use Rattle.sprites.specs.Sprites.{spriteAt, spriteAt≔, fetched}
 
 module _ (s : Sprites) (k bytes : ℕ) {dma : Bool} (d : dma ≡ hasBit (s .dma) k) where
   round : (mc : ℕ) → (mc % 64 + bytes) % 64 ≡ (mc + bytes) % 64
   round mc = omega arith
 
-  pub moves : (dma && spriteAt s k .dma) ≡ true → spriteAt≔ k (sprite-mc≔ ((spriteAt s k .mc % 64 + bytes) % 64) (spriteAt s k)) s ≡ fetched k bytes s
-  unfolding fetched fetches
+  pub moves : dma ≡ true → spriteAt≔ k (sprite-mc≔ ((spriteAt s k .mc % 64 + bytes) % 64) (spriteAt s k)) s ≡ fetched k bytes s
+  unfolding fetched
   moves on = rw (← d, on, round (spriteAt s k .mc))
 
-  pub keeps : (dma && spriteAt s k .dma) ≡ false → s ≡ fetched k bytes s
-  unfolding fetched fetches
+  pub keeps : dma ≡ false → s ≡ fetched k bytes s
+  unfolding fetched
   keeps off = rw (← d, off)
 
 -- the sprite that is none of the first seven

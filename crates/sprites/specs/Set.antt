@@ -1,21 +1,17 @@
 -- A record with one field changed: the one place that lists them all.
 use Prim.Native.Nat.{ℕ}
-use mathlib.Core.Bool.{Bool}
 use mathlib.Core.List.{List}
 use Rattle.sprites.specs.declared.Sprite.{Sprite}
 use Rattle.sprites.specs.declared.Sprites.{Sprites}
 
 abbrev pub sprite-number≔ : ℕ → Sprite → Sprite
-sprite-number≔ v s = record { number = v; mc = s .mc; base = s .base; dma = s .dma }
+sprite-number≔ v s = record { number = v; mc = s .mc; base = s .base }
 
 abbrev pub sprite-mc≔ : ℕ → Sprite → Sprite
-sprite-mc≔ v s = record { number = s .number; mc = v; base = s .base; dma = s .dma }
+sprite-mc≔ v s = record { number = s .number; mc = v; base = s .base }
 
 abbrev pub sprite-base≔ : ℕ → Sprite → Sprite
-sprite-base≔ v s = record { number = s .number; mc = s .mc; base = v; dma = s .dma }
-
-abbrev pub sprite-dma≔ : Bool → Sprite → Sprite
-sprite-dma≔ v s = record { number = s .number; mc = s .mc; base = s .base; dma = v }
+sprite-base≔ v s = record { number = s .number; mc = s .mc; base = v }
 
 abbrev pub each≔ : List Sprite → Sprites → Sprites
 each≔ v s = record { each = v; flip = s .flip; clear = s .clear; dma = s .dma; prev = s .prev; display = s .display; vmatch = s .vmatch }

@@ -10,11 +10,11 @@ use Rattle.schedule.specs.Kind.{Kind}
 use Rattle.schedule.specs.Diagram.{happens, crunch, firstPhase}
 use Rattle.sprites.specs.declared.Sprite.{Sprite}
 use Rattle.sprites.specs.declared.Sprites.{Sprites}
-use Rattle.sprites.specs.Set.{sprite-mc≔, sprite-base≔, sprite-dma≔, each≔, flip≔, clear≔, dma≔, prev≔, display≔, vmatch≔}
+use Rattle.sprites.specs.Set.{sprite-mc≔, sprite-base≔, each≔, flip≔, clear≔, dma≔, prev≔, display≔, vmatch≔}
 
 -- 01, power-up: sprite k numbered k, expansion flip 0xFF, all else 0 and off
 unfoldable pub fresh : ℕ → Sprite
-fresh k = record { number = k; mc = 0; base = 0; dma = false }
+fresh k = record { number = k; mc = 0; base = 0 }
 
 unfoldable pub allFresh : Sprites
 allFresh =
@@ -29,7 +29,7 @@ allFresh =
     }
 
 abbrev pub none : Sprite
-none = record { number = 0; mc = 0; base = 0; dma = false }
+none = record { number = 0; mc = 0; base = 0 }
 
 unfoldable pub spriteAt : Sprites → ℕ → Sprite
 spriteAt s k = getD (s .each) k none
@@ -60,16 +60,14 @@ unfoldable pub nextBase : Bool → Bool → ℕ → ℕ → ℕ
 nextBase flip clearing base mc = cond flip (cond clearing (crunched base mc) mc) base
 
 -- Bauer 3.8.1 rule 8: base 63 ends DMA
-unfoldable pub stepped : Bool → Bool → Sprite → Sprite
-stepped flip clearing s =
-    let base = nextBase flip clearing (s .base) (s .mc) in
-    sprite-dma≔ (s .dma && not (eqb base 63)) (sprite-base≔ base s)
+unfoldable pub maskAfter : ℕ → ℕ → ℕ → ℕ
+maskAfter mask k base = cond (eqb base 63) (withoutBit mask k) mask
 
--- DECISIONS 4; departs, DIFFERENCES 28: the mask loses a sprite wherever its flag is off
+-- DECISIONS 4: with or without DMA
 unfoldable pub stepOne : ℕ → Sprites → Sprites
 stepOne k s =
-    let t = stepped (hasBit (s .flip) k) (hasBit (s .clear) k) (spriteAt s k) in
-    dma≔ (cond (t .dma) (s .dma) (withoutBit (s .dma) k)) (spriteAt≔ k t s)
+    let base = nextBase (hasBit (s .flip) k) (hasBit (s .clear) k) (spriteAt s k .base) (spriteAt s k .mc) in
+    dma≔ (maskAfter (s .dma) k base) (spriteAt≔ k (sprite-base≔ base (spriteAt s k)) s)
 
 unfoldable pub mcbaseStepped : Sprites → Sprites
 mcbaseStepped s = clear≔ 0 (upTo stepOne 8 (prev≔ (s .dma) s))
@@ -84,7 +82,7 @@ starts line enable k y s = not (hasBit (s .dma) k) && hasBit enable k && eqb y l
 unfoldable pub dmaBegun : ℕ → ℕ → Sprites → Sprites
 dmaBegun k yexp s =
     flip≔ (cond (hasBit yexp k) (withoutBit (s .flip) k) (s .flip))
-    (dma≔ (withBit (s .dma) k) (spriteAt≔ k (sprite-base≔ 0 (sprite-dma≔ true (spriteAt s k))) s))
+    (dma≔ (withBit (s .dma) k) (spriteAt≔ k (sprite-base≔ 0 (spriteAt s k)) s))
 
 unfoldable pub startOne : ℕ → ℕ → ℕ → ℕ → ℕ → Sprites → Sprites
 startOne line enable yexp k y s = cond (starts line enable k y s) (dmaBegun k yexp s) s
@@ -145,11 +143,7 @@ expandWritten k value cycle old s =
 
 -- A slot's bytes
 
--- DECISIONS 5; departs, DIFFERENCES 28: the mask and the sprite's own flag
-unfoldable pub fetches : ℕ → Sprites → Bool
-fetches k s = hasBit (s .dma) k && spriteAt s k .dma
-
--- Bauer 3.8.1 rule 5: MC up by one after each byte, mod 64
+-- Bauer 3.8.1 rule 5: with DMA on, MC up by one after each byte, mod 64
 unfoldable pub fetched : ℕ → ℕ → Sprites → Sprites
 fetched k bytes s =
-    cond (fetches k s) (spriteAt≔ k (sprite-mc≔ ((spriteAt s k .mc + bytes) % 64) (spriteAt s k)) s) s
+    cond (hasBit (s .dma) k) (spriteAt≔ k (sprite-mc≔ ((spriteAt s k .mc + bytes) % 64) (spriteAt s k)) s) s

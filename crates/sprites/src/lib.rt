@@ -3,14 +3,14 @@ ghost use mathlib.Core.Path.{_≡_};
 ghost use mathlib.Core.Bool.{Bool};
 ghost use Prim.Native.Nat.{_<_, _≤_};
 ghost use Rattle.schedule.specs.Kind.{kindOf};
-ghost use Rattle.sprites.specs.Sprites.{fresh, allFresh, spriteAt, spriteAt≔, crunched, nextBase, stepped, stepOne, mcbaseStepped, dmaBegun, startOne, started, firstPhased, secondPhased, loadOne, loaded, showOne, shown, mcLoaded, clearAfter, flipAfter, expandWritten, fetched};
+ghost use Rattle.sprites.specs.Sprites.{fresh, allFresh, spriteAt, spriteAt≔, crunched, nextBase, maskAfter, stepOne, mcbaseStepped, dmaBegun, startOne, started, firstPhased, secondPhased, loadOne, loaded, showOne, shown, mcLoaded, clearAfter, flipAfter, expandWritten, fetched};
 ghost use Rattle.sprites.specs.Fine.{fineOne, fineTest};
 
+// A number of four bytes, so that a record moves as one value and not byte by byte (PERFORMANCE).
 pub struct Sprite {
-    pub number: u8,
+    pub number: u32,
     pub mc: u8,
     pub base: u8,
-    pub dma: bool,
 }
 
 // The masks have sprite k at bit k.
@@ -40,26 +40,26 @@ fn next_base(flip: bool, clearing: bool, base: u8, mc: u8) -> u8
     if clearing { crunch(base, mc) } else { mc }
 }
 
+// The mask after a sprite's MCBASE step: the base of its last row ends DMA.
+fn mask_after(mask: u8, k: usize, base: u8) -> u8
+    requires { ⌜ k < 8 ⌝ }
+    ensures { λ r. ⌜ r ≡ maskAfter mask k base ⌝ }
+{
+    if base == 63 {
+        return laws::without_bit(mask, k);
+    }
+    mask
+}
+
 impl Sprite {
-    pub fn new(number: u8) -> Self
+    pub fn new(number: u32) -> Self
         ensures { λ r. ⌜ r ≡ fresh number ⌝ }
     {
         Self {
             number: number,
             mc: 0,
             base: 0,
-            dma: false,
         }
-    }
-
-    // The MCBASE step of one sprite; its last row ends DMA.
-    fn step(mut self, flip: bool, clearing: bool) -> Self
-        ensures { λ r. ⌜ r ≡ stepped flip clearing self ⌝ }
-    {
-        let base = next_base(flip, clearing, self.base, self.mc);
-        self.base = base;
-        self.dma = self.dma & (base != 63);
-        self
     }
 }
 
@@ -129,13 +129,10 @@ impl Sprites {
     {
         let flip = laws::has_bit(self.flip, k);
         let clearing = laws::has_bit(self.clear, k);
-        let s = self.at(k);
-        let t = s.step(flip, clearing);
-        let mut all = self.put(k, t);
-        if t.dma {
-            return all;
-        }
-        all.dma = laws::without_bit(all.dma, k);
+        let mut s = self.at(k);
+        s.base = next_base(flip, clearing, s.base, s.mc);
+        let mut all = self.put(k, s);
+        all.dma = mask_after(all.dma, k, s.base);
         all
     }
 
@@ -160,7 +157,6 @@ impl Sprites {
     {
         let mut s = self.at(k);
         s.base = 0;
-        s.dma = true;
         let mut all = self.put(k, s);
         all.dma = laws::with_bit(all.dma, k);
         if laws::has_bit(yexp, k) {
@@ -298,14 +294,13 @@ impl Sprites {
         fine
     }
 
-    // Sprite k's MC after its slot fetched some bytes: both the mask and the sprite's own flag are wanted.
+    // Sprite k's MC after its slot fetched some bytes.
     pub fn fetch(self, k: usize, bytes: u8) -> Self
         requires { ⌜ (k < 8) × (bytes < 4) ⌝ }
         ensures { λ r. ⌜ r ≡ fetched k bytes self ⌝ }
     {
         let mut s = self.at(k);
-        let on = laws::has_bit(self.dma, k) & s.dma;
-        if on {
+        if laws::has_bit(self.dma, k) {
             s.mc = (s.mc % 64 + bytes) % 64;
             return self.put(k, s);
         }

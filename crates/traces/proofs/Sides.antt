@@ -38,15 +38,15 @@ shut = record { vertical = true; main = true; old = true; disabled = true; part4
 abbrev inside : Border
 inside = record { vertical = false; main = true; old = false; disabled = false; part40 = 1; part38 = 0; top = 51; bottom = 251 }
 
--- a sprite's number, MC, MCBASE and DMA
-abbrev sprite : ℕ → ℕ → ℕ → Bool → Sprite
-sprite k mc base dma = record { number = k; mc = mc; base = base; dma = dma }
+-- a sprite's number, MC and MCBASE
+abbrev sprite : ℕ → ℕ → ℕ → Sprite
+sprite k mc base = record { number = k; mc = mc; base = base }
 
 -- sprites 0, 3 and 7, the flip-flops and the DMA mask
 abbrev three : Sprite → Sprite → Sprite → ℕ → ℕ → Sprites
 three a b c flip dma =
     record {
-      each = a ∷ sprite 1 0 0 false ∷ sprite 2 0 0 false ∷ b ∷ sprite 4 0 0 false ∷ sprite 5 0 0 false ∷ sprite 6 0 0 false ∷ c ∷ [];
+      each = a ∷ sprite 1 0 0 ∷ sprite 2 0 0 ∷ b ∷ sprite 4 0 0 ∷ sprite 5 0 0 ∷ sprite 6 0 0 ∷ c ∷ [];
       flip = flip;
       clear = 0;
       dma = dma;
@@ -57,13 +57,13 @@ three a b c flip dma =
 
 -- MC and MCBASE of sprite 0, of the two others, and the flip-flops
 abbrev fetching : ℕ → ℕ → ℕ → ℕ → ℕ → Sprites
-fetching mc base expanded last flip = three (sprite 0 mc base true) (sprite 3 expanded expanded true) (sprite 7 last last true) flip 0x89
+fetching mc base expanded last flip = three (sprite 0 mc base) (sprite 3 expanded expanded) (sprite 7 last last) flip 0x89
 
 abbrev unused : ℕ → Sprites
-unused flip = three (sprite 0 0 0 false) (sprite 3 0 0 false) (sprite 7 0 0 false) flip 0
+unused flip = three (sprite 0 0 0) (sprite 3 0 0) (sprite 7 0 0) flip 0
 
 abbrev used : ℕ → Sprites
-used flip = three (sprite 0 63 63 false) (sprite 3 63 63 false) (sprite 7 63 63 false) flip 0
+used flip = three (sprite 0 63 63) (sprite 3 63 63) (sprite 7 63 63) flip 0
 
 -- the clock and BA's edges, without a request; with sprite 3's of the last three cycles
 abbrev free : ℕ → ℕ → ℕ → Bus
@@ -135,12 +135,12 @@ before8-51 = pastOf 1 50 0 true shut (unused 0xF7) (free 6630 0 0) (row 0 0 0 0 
 -- sprite 3's pointer and first byte are read, its data not yet
 abbrev pub before8-59 : Side
 before8-59 =
-    pastOf 1 58 1 true inside (three (sprite 0 24 21 true) (sprite 3 10 9 true) (sprite 7 21 21 true) 0xFF 0x89)
+    pastOf 1 58 1 true inside (three (sprite 0 24 21) (sprite 3 10 9) (sprite 7 21 21) 0xFF 0x89)
     (aec≔ (negsuc 0) (aeclow≔ true (warned 7670 7664 7662))) (row 40 40 7 40 false)
 
 -- one tick, with all that it computes with: to unfold this is to unfold them
 unfoldable pub ticked : Controls → Side → Side
-unfolding kindOf slotAfterBus hasBit withBit withoutBit pick asked settled triggered happens pointerTime dataTime slotSprite maskAt Beams.badLine Beams.baOutput Beams.nextCycle Beams.atLastLine Beams.nextLine Beams.fresh Beams.latched Beams.beamTurned Borders.compared Borders.switched Borders.lineBegun Borders.lineEnded Borders.opened Borders.leftPassed Borders.leftPart Borders.left40Passed Borders.left38Passed Borders.right38Passed Borders.right40Passed Sprites.fresh Sprites.allFresh Sprites.spriteAt Sprites.upTo Sprites.crunched Sprites.nextBase Sprites.stepped Sprites.stepOne Sprites.mcbaseStepped Sprites.dmaBegun Sprites.startOne Sprites.started Sprites.firstPhased Sprites.secondPhased Sprites.loadOne Sprites.loaded Sprites.showOne Sprites.shown Sprites.mcLoaded Sprites.fetches Sprites.fetched Buses.fresh Buses.clockOn Buses.clocked Buses.spriteAsks Buses.requested Buses.aecAfter Buses.low Buses.arbitrated pendingAfter Frames.fresh Frames.matchRaises Frames.rasterBegun Frames.frameBegun Frames.frameEnded Frames.raised Frames.swept Rows.fresh Rows.vcAfter Rows.vmliAfter Rows.rcAfter Rows.accessAfter Rows.displayAfter Rows.rowed Phases.beginAt Phases.left40At Phases.left38At Phases.right38At Phases.right40At Phases.rememberAt Phases.endAt Phases.bordered Phases.stepAt Phases.firstAt Phases.secondAt Phases.loadAt Phases.phased Phases.slotMoved freshSide turned
+unfolding kindOf slotAfterBus hasBit withBit withoutBit pick asked settled triggered happens pointerTime dataTime slotSprite maskAt Beams.badLine Beams.baOutput Beams.nextCycle Beams.atLastLine Beams.nextLine Beams.fresh Beams.latched Beams.beamTurned Borders.compared Borders.switched Borders.lineBegun Borders.lineEnded Borders.opened Borders.leftPassed Borders.leftPart Borders.left40Passed Borders.left38Passed Borders.right38Passed Borders.right40Passed Sprites.fresh Sprites.allFresh Sprites.spriteAt Sprites.upTo Sprites.crunched Sprites.nextBase Sprites.maskAfter Sprites.stepOne Sprites.mcbaseStepped Sprites.dmaBegun Sprites.startOne Sprites.started Sprites.firstPhased Sprites.secondPhased Sprites.loadOne Sprites.loaded Sprites.showOne Sprites.shown Sprites.mcLoaded Sprites.fetched Buses.fresh Buses.clockOn Buses.clocked Buses.spriteAsks Buses.requested Buses.aecAfter Buses.low Buses.arbitrated pendingAfter Frames.fresh Frames.matchRaises Frames.rasterBegun Frames.frameBegun Frames.frameEnded Frames.raised Frames.swept Rows.fresh Rows.vcAfter Rows.vmliAfter Rows.rcAfter Rows.accessAfter Rows.displayAfter Rows.rowed Phases.beginAt Phases.left40At Phases.left38At Phases.right38At Phases.right40At Phases.rememberAt Phases.endAt Phases.bordered Phases.stepAt Phases.firstAt Phases.secondAt Phases.loadAt Phases.phased Phases.slotMoved freshSide turned
 ticked g s = turned g s .side
 
 -- each from the one before

@@ -3,21 +3,20 @@ use mathlib.Core.Path.{_≡_, refl}
 use mathlib.Core.Bool.{Bool, true, false}
 use Prim.Native.Nat.{ℕ}
 use mathlib.Core.List.{List, [], _∷_}
-use Rattle.laws.specs.Bits.{hasBit}
+use Rattle.laws.specs.Bits.{hasBit, withoutBit}
 use Rattle.laws.specs.Pick.{pick}
 use Rattle.schedule.specs.Kind.{the6569, the6567R8, known, kindOf, pointerSlot, dataSlot}
 use Rattle.schedule.specs.Diagram.{happens, firstOf, firstPhase, secondPhase, mcLoad, lineEnds, slotAfterBus}
 use Rattle.schedule.specs.Requests.{maskAt}
 use Rattle.timing.specs.Beam.{badLine, nextCycle, nextLine, atLastLine, fresh}
-use Rattle.sprites.specs.Sprites.{crunched, nextBase, stepped}
-use Rattle.sprites.specs.declared.Sprite.{Sprite}
+use Rattle.sprites.specs.Sprites.{crunched, nextBase, maskAfter}
 use Rattle.access.specs.Matrix.{lateWord}
 use Rattle.rows.specs.declared.Rows.{Rows}
 use Rattle.rows.specs.Rows.{vcAfter, vmliAfter, rcAfter, accessAfter, displayAfter, rowed}
 
--- sprite 0 with these counters
-abbrev sprite : ℕ → ℕ → Bool → Sprite
-sprite base mc dma = record { number = 0; mc = mc; base = base; dma = dma }
+-- MCBASE after a step with the flip-flop set, and what is left of a mask with sprite 0 alone
+abbrev stepEnd : ℕ → ℕ → ℕ × ℕ
+stepEnd base mc = (nextBase true false base mc, maskAfter 0x01 0 (nextBase true false base mc))
 
 -- the row counters in display state with this RC
 abbrev row : ℕ → Rows
@@ -45,7 +44,7 @@ pub record Worked : Type 0 where
   -- 8. base 3, MC 6, flip, clearing: 7
   pub crunch-7 : nextBase true true 3 6 ≡ 7
   -- 9. base 60, MC 63, flip: 63, DMA off
-  pub base-63 : stepped true false (sprite 60 63 true) ≡ sprite 63 63 false
+  pub base-63 : stepEnd 60 63 ≡ (63, 0x00)
   -- 10. late byte 0xA7: 0x07FF
   pub late-A7 : lateWord 0xA7 ≡ 0x07FF
   -- 11. RC 7 with a bad line at 58: RC 0, Display
@@ -54,7 +53,7 @@ pub record Worked : Type 0 where
   pub row-plain : rowEnd false 7 ≡ (7, false)
 
 pub worked : Worked
-unfolding badLine maskAt crunched nextBase stepped hasBit lateWord happens pick vcAfter vmliAfter rcAfter accessAfter displayAfter rowed
+unfolding badLine maskAt crunched nextBase maskAfter withoutBit hasBit lateWord happens pick vcAfter vmliAfter rcAfter accessAfter displayAfter rowed
 worked =
     record {
       line-30 = refl;

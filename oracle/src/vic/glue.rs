@@ -4,7 +4,7 @@ use super::constants::IRQ_RASTER;
 use super::fsm::{CharacterAccessState, DisplayState, DisplayTransition, GraphicsMode};
 use super::state::VicII;
 use crate::accept::{takes, CLOCK_LIMIT};
-use crate::chip::{Chip, Refusal, BANK_ABOVE_3, CLOCK_AT_END, COMPARE_ABOVE_511};
+use crate::chip::{Chip, Records, Refusal, BANK_ABOVE_3, CLOCK_AT_END, COMPARE_ABOVE_511};
 use crate::clockchip::signals::LineLevel;
 use crate::kind::MOS6569;
 use crate::late::{comes_late, Met};
@@ -92,6 +92,8 @@ pub struct Machine {
     stands_in: bool,
     /// How many ticks found DEN late.
     late: u64,
+    /// What was found of its two records of sprite DMA.
+    records: Records,
 }
 
 impl Machine {
@@ -102,7 +104,7 @@ impl Machine {
 
     /// The original alone, at power-up.
     pub fn new(memory: Memory) -> Self {
-        let mut machine = Self { chip: VicII::new(), memory, stands_in: false, late: 0 };
+        let mut machine = Self { chip: VicII::new(), memory, stands_in: false, late: 0, records: Records::default() };
         // Drawing costs time and feeds nothing back; `check` compares both arms.
         machine.draw(false);
         machine.power_up(MOS6569);
@@ -111,7 +113,7 @@ impl Machine {
 
     /// The original's own power-up, with nothing put right.
     pub fn original_power_up() -> State {
-        Self { chip: VicII::new(), memory: Memory::new(), stands_in: false, late: 0 }.state()
+        Self { chip: VicII::new(), memory: Memory::new(), stands_in: false, late: 0, records: Records::default() }.state()
     }
 
     /// Chooses the arm of the original's `render_live`.
@@ -129,6 +131,26 @@ impl Machine {
         if self.watches() && comes_late(self.chip.timing.cycle, self.chip.timing.raster_line, self.chip.regs.ctrl1, self.chip.latch_den) {
             self.late += 1;
             self.chip.latch_den |= self.stands_in;
+        }
+    }
+
+    /// The sprites' own flags, as a mask.
+    pub fn flags(&self) -> u8 {
+        self.chip.sprites.sprites.iter().enumerate().fold(0, |flags, (k, sprite)| flags | u8::from(sprite.dma_active) << k)
+    }
+
+    /// What no state says: flags apart from the mask, as a scene up to version 2 could bring them in.
+    pub fn set_flags(&mut self, flags: u8) {
+        for (k, sprite) in self.chip.sprites.sprites.iter_mut().enumerate() {
+            sprite.dma_active = flags >> k & 1 == 1;
+        }
+    }
+
+    /// After a call: a mask and flags that are apart are counted.
+    fn look(&mut self) {
+        if self.watches() {
+            self.records.looked += 1;
+            self.records.apart += u64::from(self.flags() != self.chip.sprites.sprite_dma);
         }
     }
 
@@ -158,6 +180,7 @@ impl Chip for Machine {
         self.chip = VicII::new();
         self.draw(draw);
         self.chip.forced_badline_c_access_clock = 0;
+        self.look();
     }
 
     fn tick(&mut self) -> Result<(), Refusal> {
@@ -174,6 +197,7 @@ impl Chip for Machine {
         self.late_den();
         // The clock given here is the emulator's own, for the bus latch that is not kept.
         self.chip.tick_sequencer(&mut self.memory, 0);
+        self.look();
         Ok(())
     }
 
@@ -182,6 +206,7 @@ impl Chip for Machine {
         for _ in 0..ticks {
             self.late_den();
             self.chip.tick_sequencer(&mut self.memory, 0);
+            self.look();
             if self.watches() {
                 met.tick(self.late);
             }
@@ -190,10 +215,12 @@ impl Chip for Machine {
 
     fn write_file(&mut self, address: u16, value: u8) {
         self.chip.regs.write(address, value, &mut self.chip.irq);
+        self.look();
     }
 
     fn write_y_expand(&mut self, value: u8) {
         self.chip.sprites.write_y_expand(value, self.chip.timing.cycle, &mut self.chip.regs);
+        self.look();
     }
 
     /// The rule is ours, the fields and what they are set by the original's.
@@ -213,6 +240,7 @@ impl Chip for Machine {
             c.raster_match = true;
             c.irq.trigger(IRQ_RASTER);
         }
+        self.look();
     }
 
     fn write_control_2(&mut self, value: u8) {
@@ -222,6 +250,7 @@ impl Chip for Machine {
         if c.regs.mcm() != before {
             c.mode_changing = true;
         }
+        self.look();
     }
 
     fn place_controls(&mut self, ctrl1: u8, ctrl2: u8, compare: u16) -> Result<(), Refusal> {
@@ -231,17 +260,20 @@ impl Chip for Machine {
         self.chip.regs.ctrl1 = ctrl1;
         self.chip.regs.ctrl2 = ctrl2;
         self.chip.regs.raster_irq = compare;
+        self.look();
         Ok(())
     }
 
     fn late_byte(&mut self, value: u8) -> Result<(), Refusal> {
         takes(&self.state())?;
         self.chip.complete_character_access(value);
+        self.look();
         Ok(())
     }
 
     fn border_compares(&mut self) {
         self.chip.border.recompute_compare(self.chip.regs.rsel());
+        self.look();
     }
 
     fn read(&self, address: u16, light_pen_x: u8, light_pen_y: u8) -> u8 {
@@ -260,6 +292,10 @@ impl Chip for Machine {
         self.late
     }
 
+    fn records(&self) -> Records {
+        self.records
+    }
+
     fn load(&mut self, s: &State) {
         assert_eq!(s.kind, MOS6569, "the original is a 6569");
         let c = &mut self.chip;
@@ -275,7 +311,6 @@ impl Chip for Machine {
             theirs.pointer = u16::from(ours.pointer);
             theirs.mc = u16::from(ours.mc);
             theirs.mc_base = u16::from(ours.base);
-            theirs.dma_active = ours.dma;
             theirs.data_buffer = ours.word;
             theirs.fetch_buf = ours.bytes;
         }
@@ -285,6 +320,8 @@ impl Chip for Machine {
         c.graphics_mode = GraphicsMode::from_code(s.mode);
         c.previous_graphics_mode = GraphicsMode::from_code(s.previous_mode);
         c.pending_character_access = s.pending.map(usize::from);
+        // A state says it once (02 (ix)).
+        self.set_flags(s.dma);
     }
 
     fn state(&self) -> State {
@@ -302,7 +339,6 @@ impl Chip for Machine {
             ours.pointer = narrow(theirs.pointer.into());
             ours.mc = narrow(theirs.mc.into());
             ours.base = narrow(theirs.mc_base.into());
-            ours.dma = theirs.dma_active;
             ours.word = theirs.data_buffer;
             ours.bytes = theirs.fetch_buf;
         }

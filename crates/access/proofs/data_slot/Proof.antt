@@ -26,9 +26,6 @@ read-requires-2 c κs = search needs
 or-open-requires : tie.Need-or-open-requires
 or-open-requires c κs = search needs
 
-or-open-requires-2 : tie.Need-or-open-requires-2
-or-open-requires-2 c κs = search needs
-
 mul-at : tie.Need-mul-at
 mul-at c = search needs
 
@@ -65,13 +62,12 @@ same-length-2 c = search needs
 returns : tie.Need-returns
 unfolding dataAfter wordsAfter byteOne byteZero
 returns c =
-    let p = c .before .before .or-open2 .ensures in
-    let q = c .before .before .before .or-open .ensures in
-    let r = c .before .before .before .before .read2 .ensures in
-    let s = c .before .before .before .before .before .byte-address2 .ensures in
-    let t = c .before .before .before .before .before .before .read .ensures in
-    let u = c .before .before .before .before .before .before .before .byte-address .ensures in
-    (simp (p, q, r, s, t, u), simp (c .word-of .ensures, p, q, r, s, t, u))
+    let p = c .before .before .or-open .ensures in
+    let q = c .before .before .before .read2 .ensures in
+    let r = c .before .before .before .before .byte-address2 .ensures in
+    let s = c .before .before .before .before .before .read .ensures in
+    let t = c .before .before .before .before .before .before .byte-address .ensures in
+    (simp (p, q, r, s, t), simp (c .word-of .ensures, p, q, r, s, t))
 
 pub data-slot-spec : {M : Type 1} → statement M
 data-slot-spec =
@@ -84,7 +80,6 @@ data-slot-spec =
     byte-address-requires-2
     read-requires-2
     or-open-requires
-    or-open-requires-2
     mul-at
     add-two
     slice-read-two

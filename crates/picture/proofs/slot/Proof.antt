@@ -16,7 +16,7 @@ same-length-2 c = search needs
 returns : tie.Need-returns
 returns c =
     let e = c .before .before .before .before .pointer-slot .ensures in
-    pointed _ _ _ _ _ _ _ _ (c .before .before .before .before .before .before .before .before .if1 .taken) (e .0) (e .1)
+    pointed _ _ _ _ _ _ _ _ (c .before .before .before .before .before .before .before .if1 .taken) (e .0) (e .1)
 
 data-slot-requires : tie.Need-data-slot-requires
 data-slot-requires c κs = search needs

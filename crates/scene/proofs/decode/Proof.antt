@@ -5,7 +5,7 @@ use denote.Ref.{now}
 use borrow.Author.Needs.{needs}
 use borrow.Author.Tests.{eqb-true}
 use Rattle.laws.proofs.Choice.{left}
-use Rattle.scene.specs.Versions.{next, renewed}
+use Rattle.versions.specs.Versions.{next, renewed}
 use Rattle.scene.specs.Decode.{decoded}
 use Rattle.scene.proofs.decode.Statement.{statement}
 use Rattle.scene.proofs.decode.Tie as tie
@@ -22,22 +22,22 @@ grow-requires c κs =
     let long : length bytes ≡ 308 = eqb-true _ _ (left _ _ (sym (c .before .before .is-version .ensures) ∙ c .before .if1 .taken)) in
     (omega arith, omega arith)
 
-slice-aggregate-decode-newest : tie.Need-slice-aggregate-decode-newest
-slice-aggregate-decode-newest c = search needs
+slice-aggregate-decode-second : tie.Need-slice-aggregate-decode-second
+slice-aggregate-decode-second c = search needs
 
-decode-newest-requires : tie.Need-decode-newest-requires
-decode-newest-requires c κs = search needs
+decode-second-requires : tie.Need-decode-second-requires
+decode-second-requires c κs = search needs
 
 returns : tie.Need-returns
 unfolding decoded renewed next
-returns c = simp (c .decode-newest .ensures, c .before .before .before .grow .ensures, sym (c .before .before .before .before .before .before .is-version .ensures) ∙ c .before .before .before .before .before .if1 .taken)
+returns c = simp (c .decode-second .ensures, c .before .before .before .grow .ensures, sym (c .before .before .before .before .before .before .is-version .ensures) ∙ c .before .before .before .before .before .if1 .taken)
 
-decode-newest-requires-2 : tie.Need-decode-newest-requires-2
-decode-newest-requires-2 c κs = search needs
+decode-second-requires-2 : tie.Need-decode-second-requires-2
+decode-second-requires-2 c κs = search needs
 
 returns-2 : tie.Need-returns-2
 unfolding decoded renewed next
-returns-2 c = simp (c .decode-newest2 .ensures, sym (c .before .before .is-version .ensures) ∙ c .before .if1 .left)
+returns-2 c = simp (c .decode-second2 .ensures, sym (c .before .before .is-version .ensures) ∙ c .before .if1 .left)
 
 pub decode-spec : {M : Type 1} → statement M
 decode-spec =
@@ -46,8 +46,8 @@ decode-spec =
     is-version-requires
     slice-aggregate-grow
     grow-requires
-    slice-aggregate-decode-newest
-    decode-newest-requires
+    slice-aggregate-decode-second
+    decode-second-requires
     returns
-    decode-newest-requires-2
+    decode-second-requires-2
     returns-2)

@@ -1,7 +1,7 @@
 use mathlib.Core.Path.{_∙_}
 use Rattle.laws.proofs.Signs.{back64}
 use Rattle.scene.specs.Encode.{encoded}
-use Rattle.scene.proofs.Parts.{put-both, put-whole}
+use Rattle.versions.proofs.Parts.{put-both, put-whole}
 use borrow.Author.Needs.{needs}
 use Rattle.scene.proofs.fill.Statement.{statement}
 use Rattle.scene.proofs.fill.Tie as tie

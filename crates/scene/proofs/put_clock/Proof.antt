@@ -2,7 +2,7 @@ use mathlib.Core.Path.{refl, ap, _∙_}
 use Prim.Native.Nat.{_+_}
 use mir.Facts.{toZ-ofZ}
 use Rattle.scene.specs.Encode.{clockBytes}
-use Rattle.scene.proofs.Parts.{put-as}
+use Rattle.versions.proofs.Parts.{put-as}
 use borrow.Author.Needs.{needs}
 use Rattle.scene.proofs.put_clock.Statement.{statement}
 use Rattle.scene.proofs.put_clock.Tie as tie

@@ -1,6 +1,6 @@
 use Rattle.laws.proofs.Signs.{back64}
 use mir.Facts.{toZ-ofZ}
-use Rattle.scene.proofs.Parts.{put-both}
+use Rattle.versions.proofs.Parts.{put-both}
 use borrow.Author.Needs.{needs}
 use Rattle.scene.proofs.put_clocks.Statement.{statement}
 use Rattle.scene.proofs.put_clocks.Tie as tie

@@ -4,8 +4,9 @@ use native.Mathlib.Omega.{arith}
 use lib.ListN.{length}
 use denote.Ref.{now}
 use borrow.Author.Needs.{needs}
-use Rattle.scene.specs.Encode.{entryBytes, Put}
-use Rattle.scene.proofs.Parts.{put-none, put-both, put-next, put-last}
+use Rattle.versions.specs.Put.{Put}
+use Rattle.scene.specs.Encode.{entryBytes}
+use Rattle.versions.proofs.Parts.{put-none, put-both, put-next, put-last}
 use Rattle.scene.proofs.put_matrix.Statement.{statement}
 use Rattle.scene.proofs.put_matrix.Tie as tie
 

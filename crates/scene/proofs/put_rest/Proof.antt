@@ -1,7 +1,7 @@
 use mathlib.Core.Path.{refl, ap, _∙_}
 use Rattle.laws.proofs.Signs.{back8}
 use Rattle.scene.specs.Encode.{restBytes}
-use Rattle.scene.proofs.Parts.{put-as}
+use Rattle.versions.proofs.Parts.{put-as}
 use borrow.Author.Needs.{needs}
 use Rattle.scene.proofs.put_rest.Statement.{statement}
 use Rattle.scene.proofs.put_rest.Tie as tie

@@ -1,6 +1,6 @@
 use Prim.Native.Nat.{_+_, _*_}
 use mathlib.Core.Path.{refl}
-use Rattle.scene.proofs.Parts.{put-as}
+use Rattle.versions.proofs.Parts.{put-as}
 use borrow.Author.Needs.{needs}
 use Rattle.scene.proofs.put_sprite.Statement.{statement}
 use Rattle.scene.proofs.put_sprite.Tie as tie

@@ -4,8 +4,9 @@ use native.Mathlib.Omega.{arith}
 use lib.ListN.{length}
 use denote.Ref.{now}
 use borrow.Author.Needs.{needs}
-use Rattle.scene.specs.Encode.{spriteRows, Put}
-use Rattle.scene.proofs.Parts.{put-none, put-both, put-next, put-last}
+use Rattle.versions.specs.Put.{Put}
+use Rattle.scene.specs.Encode.{spriteRows}
+use Rattle.versions.proofs.Parts.{put-none, put-both, put-next, put-last}
 use Rattle.scene.proofs.put_sprites.Statement.{statement}
 use Rattle.scene.proofs.put_sprites.Tie as tie
 

@@ -1,7 +1,7 @@
 use mathlib.Core.Path.{refl, ap}
 use Prim.Native.Nat.{ℕ}
 use mathlib.Core.List.{[], _∷_}
-use Rattle.scene.proofs.Parts.{put-as}
+use Rattle.versions.proofs.Parts.{put-as}
 use borrow.Author.Needs.{needs}
 use Rattle.scene.proofs.put_tail.Statement.{statement}
 use Rattle.scene.proofs.put_tail.Tie as tie

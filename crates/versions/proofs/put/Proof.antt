@@ -9,8 +9,8 @@ use lib.ListN.{length, getD, set, take, length-set}
 use lib.Seq.{paste, paste-zero, paste-suc, take-paste, take-length}
 use denote.Ref.{now}
 use borrow.Author.Needs.{needs}
-use Rattle.scene.proofs.put.Statement.{statement}
-use Rattle.scene.proofs.put.Tie as tie
+use Rattle.versions.proofs.put.Statement.{statement}
+use Rattle.versions.proofs.put.Tie as tie
 
 abbrev Inv-loop : tie.InvT-loop
 Inv-loop out₀ at part i₀ out i = (out ≡ paste out₀ at part i) × (i ≤ length part) × (length out ≡ length out₀)

@@ -1,7 +1,7 @@
 use borrow.Author.Needs.{needs}
 use borrow.Author.Tests.{eq-eqb, ne-eqb}
-use Rattle.scene.proofs.is_version.Statement.{statement}
-use Rattle.scene.proofs.is_version.Tie as tie
+use Rattle.versions.proofs.is_version.Statement.{statement}
+use Rattle.versions.proofs.is_version.Tie as tie
 
 returns : tie.Need-returns
 returns c = simp (ne-eqb _ _ (c .if1 .taken))

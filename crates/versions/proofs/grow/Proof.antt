@@ -4,10 +4,10 @@ use Prim.Native.Nat.{ℕ}
 use native.Mathlib.Omega.{arith}
 use lib.ListN.{length, set, length-set}
 use denote.Ref.{now}
-use Rattle.scene.proofs.Parts.{put-as, put-both, put-whole}
+use Rattle.versions.proofs.Parts.{put-as, put-both, put-whole}
 use borrow.Author.Needs.{needs}
-use Rattle.scene.proofs.grow.Statement.{statement}
-use Rattle.scene.proofs.grow.Tie as tie
+use Rattle.versions.proofs.grow.Statement.{statement}
+use Rattle.versions.proofs.grow.Tie as tie
 
 put-requires : tie.Need-put-requires
 put-requires c κs = search needs

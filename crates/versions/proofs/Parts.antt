@@ -7,7 +7,7 @@ use native.Mathlib.Numerals.{add-one}
 use native.Mathlib.Omega.{arith}
 use lib.ListN.{length, take}
 use lib.Seq.{take-all}
-use Rattle.scene.specs.Encode.{Put}
+use Rattle.versions.specs.Put.{Put}
 
 -- a part by another name, and its end computed
 pub put-as : {b a p : List ℕ} {at : ℕ} (q : List ℕ) (end : ℕ) → Put b a at (at + length p) p → p ≡ q → at + length q ≡ end → Put b a at end q
