@@ -1,0 +1,1 @@
+// Why the CPU stops: definitions and theorems alone.
