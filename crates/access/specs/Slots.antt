@@ -5,6 +5,8 @@ use mathlib.Core.List.{List}
 use lib.ListN.{getD, set}
 use Rattle.laws.specs.Pointers.{matrixBase}
 use Rattle.memory.specs.Memory.{readAt}
+use Rattle.memory.specs.declared.Found.{Found}
+use Rattle.access.specs.declared.Spots.{Spots}
 
 -- Bauer 3.6.2: the last eight bytes of the video matrix's kilobyte
 abbrev pub pointerAddress : ℕ → ℕ → ℕ
@@ -19,26 +21,46 @@ unfoldable pub orOpen : Bool → ℕ → ℕ
 orOpen seen byte = cond seen byte 0xFF
 
 -- Bauer 3.6.3: the pointer is always read
-abbrev pub pointerRead : ℕ → ℕ → List ℕ → List ℕ → ℕ → ℕ
-pointerRead k ptrs ram rom bank = readAt ram rom bank (pointerAddress ptrs k) .byte
+abbrev pub pointerRead : ℕ → ℕ → List ℕ → List ℕ → ℕ → Found
+pointerRead k ptrs ram rom bank = readAt ram rom bank (pointerAddress ptrs k)
+
+-- a sprite's bytes: byte 2 by the pointer just read, bytes 1 and 0 by the pointer that the sprite has
+abbrev pub twoRead : ℕ → Bool → ℕ → ℕ → List ℕ → List ℕ → ℕ → Found
+twoRead k on mc ptrs ram rom bank = readAt ram rom bank (byteAddress on (pointerRead k ptrs ram rom bank .byte) mc)
+
+abbrev pub oneRead : List ℕ → ℕ → Bool → ℕ → List ℕ → List ℕ → ℕ → Found
+oneRead pointers k on mc ram rom bank = readAt ram rom bank (byteAddress on (getD pointers k 0) mc)
+
+abbrev pub zeroRead : List ℕ → ℕ → Bool → ℕ → List ℕ → List ℕ → ℕ → Found
+zeroRead pointers k on mc ram rom bank = readAt ram rom bank (byteAddress on (getD pointers k 0) (mc % 64 + 1))
+
+-- 02 (viii): where a slot's two accesses read, whether or not they have the bus
+abbrev pub spots : Found → Found → Spots
+spots x y = record { first = x .address; second = y .address }
+
+unfoldable pub pointerSpots : ℕ → Bool → ℕ → ℕ → List ℕ → List ℕ → ℕ → Spots
+pointerSpots k on mc ptrs ram rom bank = spots (pointerRead k ptrs ram rom bank) (twoRead k on mc ptrs ram rom bank)
+
+unfoldable pub dataSpots : List ℕ → ℕ → Bool → ℕ → List ℕ → List ℕ → ℕ → Spots
+dataSpots pointers k on mc ram rom bank = spots (oneRead pointers k on mc ram rom bank) (zeroRead pointers k on mc ram rom bank)
 
 unfoldable pub pointersAfter : List ℕ → ℕ → ℕ → List ℕ → List ℕ → ℕ → List ℕ
-pointersAfter pointers k ptrs ram rom bank = set pointers k (pointerRead k ptrs ram rom bank)
+pointersAfter pointers k ptrs ram rom bank = set pointers k (pointerRead k ptrs ram rom bank .byte)
 
 -- DECISIONS 5; departs, DIFFERENCES 10: with DMA it is read whatever AEC is, but for sprite 0's first; without it only with AEC low
 unfoldable pub byteTwoAfter : List ℕ → ℕ → Bool → Bool → ℕ → Bool → ℕ → List ℕ → List ℕ → ℕ → List ℕ
 byteTwoAfter bytes k first on mc low ptrs ram rom bank =
     set bytes (k * 3 + 2)
-    (orOpen ((on && not first) || low) (readAt ram rom bank (byteAddress on (pointerRead k ptrs ram rom bank) mc) .byte))
+    (orOpen ((on && not first) || low) (twoRead k on mc ptrs ram rom bank .byte))
 
 -- DECISIONS 5: byte 1 is read whatever AEC is, without DMA too
 unfoldable pub byteOne : List ℕ → ℕ → Bool → ℕ → List ℕ → List ℕ → ℕ → ℕ
-byteOne pointers k on mc ram rom bank = readAt ram rom bank (byteAddress on (getD pointers k 0) mc) .byte
+byteOne pointers k on mc ram rom bank = oneRead pointers k on mc ram rom bank .byte
 
 -- DECISIONS 5: with DMA it is read whatever AEC is; without it only with AEC low
 unfoldable pub byteZero : List ℕ → ℕ → Bool → ℕ → Bool → List ℕ → List ℕ → ℕ → ℕ
 byteZero pointers k on mc low ram rom bank =
-    orOpen (on || low) (readAt ram rom bank (byteAddress on (getD pointers k 0) (mc % 64 + 1)) .byte)
+    orOpen (on || low) (zeroRead pointers k on mc ram rom bank .byte)
 
 unfoldable pub dataAfter : List ℕ → List ℕ → ℕ → Bool → ℕ → Bool → List ℕ → List ℕ → ℕ → List ℕ
 dataAfter pointers bytes k on mc low ram rom bank =

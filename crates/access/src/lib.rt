@@ -2,15 +2,19 @@
 // The picture's arrays are lent; every step takes any number, so that a state's bounds need not travel.
 ghost use mathlib.Core.Path.{_≡_};
 ghost use mathlib.Core.Bool.{Bool, cond, not, _&&_, _||_};
+ghost use mathlib.Core.List.{[]};
 ghost use Prim.Native.Nat.{_<_};
 ghost use lib.ListN.{length};
 ghost use lib.IntN.{ℤ};
 ghost use Rattle.laws.specs.Clock.{inRange};
 ghost use Rattle.memory.specs.Memory.{Lent};
-ghost use Rattle.access.specs.Matrix.{matrixWord, filled, lateWord};
+ghost use Rattle.access.specs.Reads.{told};
+ghost use Rattle.access.specs.Machinery.Noted.{readFor, readsOf, notedOf, readsIn};
+ghost use Rattle.access.specs.Matrix.{matrixEntry, fillSpot, filled, lateWord};
 ghost use Rattle.access.specs.Merge.{sinceOf, previousOf, carryOf, mixOf, latchOf, mergedAt, merged, latched};
 ghost use Rattle.access.specs.Graphics.{ecmMasked, textAddress, bitmapAddress, plainAddress, bmmFell, ecmFell, graphicsAddress, idleAddress, accessAddress};
-ghost use Rattle.access.specs.Slots.{pointerAddress, byteAddress, orOpen, pointersAfter, byteTwoAfter, byteOne, byteZero, dataAfter, wordOf, wordsAfter};
+ghost use Rattle.access.specs.Slots.{pointerAddress, byteAddress, orOpen, pointerSpots, dataSpots, pointersAfter, byteTwoAfter, byteOne, byteZero, dataAfter, wordOf, wordsAfter};
+use schedule::Reasons;
 
 // The character that a graphics access uses, and the bits that a merge carries on.
 pub struct Latch {
@@ -18,19 +22,113 @@ pub struct Latch {
     pub carry: u16,
 }
 
+// What a character access found: twelve bits of the matrix line, and the address of the eight that memory has.
+pub struct Entry {
+    pub word: u16,
+    pub address: u16,
+}
+
+// A read of a tick: the number of its reason, 0 for none, and the address that was on the bus.
+pub struct Read {
+    pub reason: u8,
+    pub address: u16,
+}
+
+// A tick's reads, in order.
+pub struct Reads {
+    pub first: Read,
+    pub second: Read,
+}
+
+// Where the two accesses of a cycle read, whether or not they have the bus.
+pub struct Spots {
+    pub first: u16,
+    pub second: u16,
+}
+
+pub fn no_reads() -> Reads
+    ensures { λ r. ⌜ r ≡ told [] ⌝ }
+{
+    let none = Read {
+        reason: 0,
+        address: 0,
+    };
+    Reads {
+        first: none,
+        second: none,
+    }
+}
+
+// A read for a reason.
+fn read_for(reason: u8, address: u16) -> Read
+    ensures { λ r. ⌜ r ≡ readFor reason address ⌝ }
+{
+    if reason == 0 {
+        return Read {
+            reason: 0,
+            address: 0,
+        };
+    }
+    Read {
+        reason: reason,
+        address: address,
+    }
+}
+
+// A tick's reads: the timing side has the reasons, the picture side the addresses.
+fn reads_for(reasons: Reasons, spots: Spots) -> Reads
+    ensures { λ r. ⌜ r ≡ readsOf reasons spots ⌝ }
+{
+    let first = read_for(reasons.first, spots.first);
+    let second = read_for(reasons.second, spots.second);
+    Reads {
+        first: first,
+        second: second,
+    }
+}
+
+// Two of them in one number: a run of ticks hands on one, and not four.
+pub fn noted(reasons: Reasons, spots: Spots) -> u64
+    ensures { λ r. ⌜ r ≡ notedOf reasons spots ⌝ }
+{
+    reasons.first as u64 * 65536
+        + spots.first as u64
+        + reasons.second as u64 * 281474976710656
+        + spots.second as u64 * 4294967296
+}
+
+// The reads that such a number holds.
+pub fn reads_in(noted: u64) -> Reads
+    ensures { λ r. ⌜ r ≡ readsIn noted ⌝ }
+{
+    let reasons = Reasons {
+        first: (noted / 65536 % 256) as u8,
+        second: (noted / 281474976710656 % 256) as u8,
+    };
+    let spots = Spots {
+        first: (noted % 65536) as u16,
+        second: (noted / 4294967296 % 65536) as u16,
+    };
+    reads_for(reasons, spots)
+}
+
 // ---- the matrix
 
-// A character access: the screen code below, the colour nibble above.
-pub fn matrix_word(ram: &[u8], rom: &[u8], colour: &[u8], bank: u8, ptrs: u8, vc: u16) -> u16
+// A character access: the screen code below, the colour nibble above, and where the code was read.
+pub fn matrix_entry(ram: &[u8], rom: &[u8], colour: &[u8], bank: u8, ptrs: u8, vc: u16) -> Entry
     requires { ⌜ Lent (now ram) (now rom) ⌝ ∗ ⌜ length (now colour) ≡ 1024 ⌝ }
-    ensures { λ r. ⌜ r ≡ matrixWord (now (ram .entry)) (now (rom .entry)) (now (colour .entry)) bank ptrs vc ⌝ }
+    ensures { λ r. ⌜ r ≡ matrixEntry (now (ram .entry)) (now (rom .entry)) (now (colour .entry)) bank ptrs vc ⌝ }
 {
     let found = memory::read(ram, rom, bank, laws::wide(ptrs / 16) * 1024 + vc % 1024);
     let at = (vc % 1024) as usize;
-    laws::wide(colour[at] % 16) * 256 + laws::wide(found.byte)
+    let word = laws::wide(colour[at] % 16) * 256 + laws::wide(found.byte);
+    Entry {
+        word: word,
+        address: found.address,
+    }
 }
 
-// The matrix line after a cycle in which a character access may fill a place.
+// The matrix line after a cycle in which a character access may fill a place, and the address of that access.
 pub fn fill(
     matrix: &mut [u16],
     go: bool,
@@ -41,14 +139,17 @@ pub fn fill(
     rom: &[u8],
     colour: &[u8],
     bank: u8,
-)
+) -> u16
     requires { ⌜ length (now matrix) ≡ 40 ⌝ ∗ ⌜ Lent (now ram) (now rom) ⌝ ∗ ⌜ length (now colour) ≡ 1024 ⌝ }
-    ensures { λ r. ⌜ now (matrix .exit) ≡ filled (now (matrix .entry)) go vmli vc ptrs (now (ram .entry)) (now (rom .entry)) (now (colour .entry)) bank ⌝ }
+    ensures { λ r. ⌜ r ≡ fillSpot go vc ptrs (now (ram .entry)) (now (rom .entry)) bank ⌝ ∗ ⌜ now (matrix .exit) ≡ filled (now (matrix .entry)) go vmli vc ptrs (now (ram .entry)) (now (rom .entry)) (now (colour .entry)) bank ⌝ }
 {
     if go {
         let at = rows::place(vmli) as usize;
-        matrix[at] = matrix_word(ram, rom, colour, bank, ptrs, vc);
+        let entry = matrix_entry(ram, rom, colour, bank, ptrs, vc);
+        matrix[at] = entry.word;
+        return entry.address;
     }
+    0
 }
 
 // What the CPU's byte leaves in a pending place.
@@ -311,9 +412,9 @@ pub fn pointer_slot(
     ram: &[u8],
     rom: &[u8],
     bank: u8,
-)
+) -> Spots
     requires { ⌜ (length (now pointers) ≡ 8) × (length (now bytes) ≡ 24) ⌝ ∗ ⌜ k < 8 ⌝ ∗ ⌜ Lent (now ram) (now rom) ⌝ }
-    ensures { λ r. ⌜ now (pointers .exit) ≡ pointersAfter (now (pointers .entry)) k ptrs (now (ram .entry)) (now (rom .entry)) bank ⌝ ∗ ⌜ now (bytes .exit) ≡ byteTwoAfter (now (bytes .entry)) k first on mc low ptrs (now (ram .entry)) (now (rom .entry)) bank ⌝ }
+    ensures { λ r. ⌜ r ≡ pointerSpots k on mc ptrs (now (ram .entry)) (now (rom .entry)) bank ⌝ ∗ ⌜ now (pointers .exit) ≡ pointersAfter (now (pointers .entry)) k ptrs (now (ram .entry)) (now (rom .entry)) bank ⌝ ∗ ⌜ now (bytes .exit) ≡ byteTwoAfter (now (bytes .entry)) k first on mc low ptrs (now (ram .entry)) (now (rom .entry)) bank ⌝ }
 {
     let found = memory::read(
         ram,
@@ -324,6 +425,10 @@ pub fn pointer_slot(
     pointers[k] = found.byte;
     let data = memory::read(ram, rom, bank, byte_address(on, found.byte, mc));
     bytes[k * 3 + 2] = or_open((on & !first) | low, data.byte);
+    Spots {
+        first: found.address,
+        second: data.address,
+    }
 }
 
 pub fn word_of(two: u8, one: u8, zero: u8) -> u32
@@ -344,9 +449,9 @@ pub fn data_slot(
     ram: &[u8],
     rom: &[u8],
     bank: u8,
-)
+) -> Spots
     requires { ⌜ (length (now pointers) ≡ 8) × (length (now bytes) ≡ 24) × (length (now words) ≡ 8) ⌝ ∗ ⌜ k < 8 ⌝ ∗ ⌜ Lent (now ram) (now rom) ⌝ }
-    ensures { λ r. ⌜ now (bytes .exit) ≡ dataAfter (now (pointers .entry)) (now (bytes .entry)) k on mc low (now (ram .entry)) (now (rom .entry)) bank ⌝ ∗ ⌜ now (words .exit) ≡ wordsAfter (now (pointers .entry)) (now (bytes .entry)) (now (words .entry)) k on mc low (now (ram .entry)) (now (rom .entry)) bank ⌝ }
+    ensures { λ r. ⌜ r ≡ dataSpots (now (pointers .entry)) k on mc (now (ram .entry)) (now (rom .entry)) bank ⌝ ∗ ⌜ now (bytes .exit) ≡ dataAfter (now (pointers .entry)) (now (bytes .entry)) k on mc low (now (ram .entry)) (now (rom .entry)) bank ⌝ ∗ ⌜ now (words .exit) ≡ wordsAfter (now (pointers .entry)) (now (bytes .entry)) (now (words .entry)) k on mc low (now (ram .entry)) (now (rom .entry)) bank ⌝ }
 {
     let pointer = pointers[k];
     let first = memory::read(ram, rom, bank, byte_address(on, pointer, mc));
@@ -358,4 +463,8 @@ pub fn data_slot(
     bytes[at] = zero;
     bytes[at + 1] = one;
     words[k] = word_of(two, one, zero);
+    Spots {
+        first: first.address,
+        second: second.address,
+    }
 }

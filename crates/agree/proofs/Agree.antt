@@ -24,7 +24,7 @@ use Rattle.chip.specs.declared.Chip.{Chip}
 use Rattle.chip.specs.declared.Answer.{Answer}
 use Rattle.chip.specs.Chip.{answer, powered}
 use Rattle.chip.specs.Accept.{stateRefusal}
-use Rattle.sequencer.specs.Tick.{tickWorld, tickOf, tickRefusal, ticked, ticksFrom}
+use Rattle.sequencer.specs.Tick.{tickWorld, tickRefusal, ticked, ticksFrom}
 use Rattle.calls.specs.Calls.{isExpand, fileWritten, expandAt, registerWritten, comparesBy, controlStored, control1Written, control2Written, controlsPlaced, lateAt, lateTaken}
 use Rattle.artwork.specs.Runs.{Call, tick, ticks, write, expand, compares, control-1, control-2, place-controls, late, done, run}
 use Rattle.agree.specs.Was.{Flagged, freshWas, slotMovedWas, byteOneWas, byteZeroWas}
@@ -52,7 +52,7 @@ own c = flagged (c .side .sprites)
 
 ticked-agrees : (h : Host) (c : Chip) → tickedWas h c (own c) ≡ held (ticked h c)
 unfolding tickedWas ticked tickWorld
-ticked-agrees h c = same-way held (eqb (tickRefusal h c) 0) (answer 0 (tickOf h c)) (answer (tickRefusal h c) c) (turned-agrees (timed (c .regs)) (c .side)) refl
+ticked-agrees h c = same-way held (eqb (tickRefusal h c) 0) _ (answer (tickRefusal h c) c) (turned-agrees (timed (c .regs)) (c .side)) refl
 
 ticks-agrees : (h : Host) (n : ℕ) (c : Chip) → ticksWas h n c (own c) ≡ held (ticksFrom h n c)
 unfolding ticksWas ticksFrom

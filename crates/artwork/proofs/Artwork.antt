@@ -2,9 +2,10 @@
 use Prim.Native.Nat.{ℕ, zero, suc}
 use mathlib.Core.Path.{_≡_, refl, subst}
 use mathlib.Core.Bool.{Bool, true, false, cond}
-use mathlib.Core.List.{List, map}
+use mathlib.Core.List.{List, [], map}
 use lib.Dec.{eqb}
 use Rattle.memory.specs.Lent.{Host, lentRefusal}
+use Rattle.access.specs.Reads.{told}
 use Rattle.side.specs.declared.Side.{Side}
 use Rattle.chip.specs.declared.Chip.{Chip}
 use Rattle.chip.specs.declared.Answer.{Answer}
@@ -12,8 +13,10 @@ use Rattle.chip.specs.Accept.{accepted}
 use Rattle.sequencer.specs.Tick.{tickable, ticked, ticksFrom}
 use Rattle.chip.proofs.Level.{Level, LevelAnswers, picked}
 use Rattle.sequencer.proofs.Sides.{tick-level, tick-taken, tick-late}
+use Rattle.sequencer.proofs.Reported.{SameReasons, level-reasons}
 use Rattle.sequencer.proofs.Kept.{tick-kept}
 use Rattle.calls.proofs.Sides.{write-level, expand-level, compares-level, control-1-level, control-2-level, controls-level, late-level, phi1-same, count-same, read-same}
+use Rattle.calls.proofs.Silent.{controls-silent, late-silent}
 use Rattle.calls.proofs.Kept.{write-kept, expand-kept, compares-kept, control-1-kept, control-2-kept, controls-kept, late-kept}
 use Rattle.artwork.specs.Runs.{Together, Call, done, run, Alike, tick-alike, ticks-alike, write-alike, expand-alike, compares-alike, control-1-alike, control-2-alike, place-controls-alike, late-alike, Pairwise, none, more, Same, NeverMovesACycle, Answered}
 use Rattle.artwork.proofs.Shared.{control-1-same, control-2-same}
@@ -25,8 +28,12 @@ level t = record { side = t .side; registers = t .registers }
 join : {a b : Chip} → Level a b → accepted a ≡ true → accepted b ≡ true → Together a b
 join e f g = record { left = f; right = g; side = e .side; registers = e .registers }
 
-same : {r s : Answer} → LevelAnswers r s → accepted (r .chip) ≡ true → accepted (s .chip) ≡ true → Same r s
-same e f g = record { refused = e .refused; together = join (e .chip) f g }
+same : {r s : Answer} → LevelAnswers r s → SameReasons (r .reads) (s .reads) → accepted (r .chip) ≡ true → accepted (s .chip) ≡ true → Same r s
+same e q f g = record { refused = e .refused; together = join (e .chip) f g; first-reason = q .0; second-reason = q .1 }
+
+-- two answers without a read
+silent : SameReasons (told []) (told [])
+silent = (refl, refl)
 
 ticked-kept : (h : Host) (c : Chip) → lentRefusal h ≡ 0 → accepted c ≡ true → accepted (ticked h c .chip) ≡ true
 ticked-kept h c l e = by-clock (tickable (c .side .bus .clock)) refl
@@ -37,7 +44,7 @@ ticked-kept h c l e = by-clock (tickable (c .side .bus .clock)) refl
 
 tick-same : (h k : Host) → lentRefusal h ≡ 0 → lentRefusal k ≡ 0 → (a b : Chip) → Together a b → Same (ticked h a) (ticked k b)
 tick-same h k l m a b t =
-    same (tick-level (level t) h k l m (t .left) (t .right)) (ticked-kept h a l (t .left)) (ticked-kept k b m (t .right))
+    same (tick-level (level t) h k l m (t .left) (t .right)) (level-reasons (level t) h k l m (t .left) (t .right)) (ticked-kept h a l (t .left)) (ticked-kept k b m (t .right))
 
 -- one tick more, unless one was refused
 next-same : (h k : Host) → lentRefusal h ≡ 0 → lentRefusal k ≡ 0 → (r s : Answer) → Same r s
@@ -48,7 +55,7 @@ next-same h k l m r s q =
 
 ticks-same : (h k : Host) → lentRefusal h ≡ 0 → lentRefusal k ≡ 0 → (n : ℕ) (a b : Chip) → Together a b → Same (ticksFrom h n a) (ticksFrom k n b)
 unfolding ticksFrom
-ticks-same h k l m zero a b t = record { refused = refl; together = t }
+ticks-same h k l m zero a b t = record { refused = refl; together = t; first-reason = refl; second-reason = refl }
 ticks-same h k l m (suc n) a b t = next-same h k l m (ticksFrom h n a) (ticksFrom k n b) (ticks-same h k l m n a b t)
 
 one : {x y : Call} → Alike x y → (a b : Chip) → Together a b → Same (done x a) (done y b)
@@ -56,18 +63,19 @@ unfolding done
 one (tick-alike {h} {k} l m) a b t = tick-same h k l m a b t
 one (ticks-alike {h} {k} n l m) a b t = ticks-same h k l m n a b t
 one (write-alike {v} {w} addr p q e) a b t =
-    same (record { refused = refl; chip = write-level (level t) addr v w e }) (write-kept a addr v p (t .left)) (write-kept b addr w q (t .right))
+    same (record { refused = refl; chip = write-level (level t) addr v w e }) silent (write-kept a addr v p (t .left)) (write-kept b addr w q (t .right))
 one (expand-alike v) a b t =
-    same (record { refused = refl; chip = expand-level (level t) v }) (expand-kept a v (t .left)) (expand-kept b v (t .right))
+    same (record { refused = refl; chip = expand-level (level t) v }) silent (expand-kept a v (t .left)) (expand-kept b v (t .right))
 one compares-alike a b t =
-    same (record { refused = refl; chip = compares-level (level t) }) (compares-kept a (t .left)) (compares-kept b (t .right))
+    same (record { refused = refl; chip = compares-level (level t) }) silent (compares-kept a (t .left)) (compares-kept b (t .right))
 one (control-1-alike {v} {w} high den rsel yscroll) a b t =
-    same (record { refused = refl; chip = control-1-level (level t) v w high den rsel yscroll }) (control-1-kept a v (t .left)) (control-1-kept b w (t .right))
+    same (record { refused = refl; chip = control-1-level (level t) v w high den rsel yscroll }) silent (control-1-kept a v (t .left)) (control-1-kept b w (t .right))
 one (control-2-alike {v} {w} csel) a b t =
-    same (record { refused = refl; chip = control-2-level (level t) v w csel }) (control-2-kept a v (t .left)) (control-2-kept b w (t .right))
+    same (record { refused = refl; chip = control-2-level (level t) v w csel }) silent (control-2-kept a v (t .left)) (control-2-kept b w (t .right))
 one (place-controls-alike {c} {d} {x} {y} line den rsel yscroll csel) a b t =
-    same (controls-level (level t) c d x y line den rsel yscroll csel) (controls-kept a c x line (t .left)) (controls-kept b d y line (t .right))
-one (late-alike {v} {w}) a b t = same (late-level (level t) v w (t .left) (t .right)) (late-kept a v (t .left)) (late-kept b w (t .right))
+    same (controls-level (level t) c d x y line den rsel yscroll csel) (rw (controls-silent a c x line, controls-silent b d y line) silent) (controls-kept a c x line (t .left)) (controls-kept b d y line (t .right))
+one (late-alike {v} {w}) a b t =
+    same (late-level (level t) v w (t .left) (t .right)) (rw (late-silent a v, late-silent b w) silent) (late-kept a v (t .left)) (late-kept b w (t .right))
 
 each : {xs ys : List Call} → Pairwise Alike xs ys → (a b : Chip) → Together a b → Pairwise Same (run xs a) (run ys b)
 unfolding run

@@ -4,3 +4,4 @@ pub mod Instances
 pub mod Modes
 pub mod Needed
 pub mod Numbers
+pub mod Addresses

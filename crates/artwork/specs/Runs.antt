@@ -82,9 +82,12 @@ pub data Pairwise {A : Type 0} (R : A → A → Type 0) : List A → List A → 
   more : {x y : A} {xs ys : List A} → R x y → Pairwise R xs ys → Pairwise R (x ∷ xs) (y ∷ ys)
 
 -- two answers: refused alike, and the chips stay together
+-- 02 (viii): as many reads, for the same reasons in the same order; the addresses are free
 pub record Same (r s : Answer) : Type 0 where
   pub refused : r .refused ≡ s .refused
   pub together : Together (r .chip) (s .chip)
+  pub first-reason : r .reads .first .reason ≡ s .reads .first .reason
+  pub second-reason : r .reads .second .reason ≡ s .reads .second .reason
 
 -- the theorem: after every call
 abbrev pub NeverMovesACycle : Type 0

@@ -4,3 +4,4 @@ pub mod Sides
 pub mod Numbers
 pub mod Door
 pub mod Control
+pub mod Silent

@@ -2,6 +2,7 @@
 // A call asks nothing of its caller: what it does not take it refuses by number, with the state unchanged.
 ghost use mathlib.Core.Path.{_≡_};
 ghost use Prim.Native.Nat.{_<_};
+ghost use Rattle.chip.specs.Chip.{answer};
 ghost use Rattle.calls.specs.Calls.{registerRead, fileWritten, expandAt, registerWritten, comparesBy, controlStored, control1Written, control2Written, controlsPlaced, lateAt, lateTaken, phi1, dmaCount};
 use chip::Answer;
 use chip::Chip;
@@ -122,22 +123,28 @@ pub fn write_control_2(chip: Chip, value: u8) -> Chip
     store_control(chip, stored)
 }
 
+// No call but a tick reads.
+fn answered(refused: u8, chip: Chip) -> Answer
+    ensures { λ r. ⌜ r ≡ answer refused chip ⌝ }
+{
+    let reads = access::no_reads();
+    Answer {
+        refused,
+        chip,
+        reads,
+    }
+}
+
 pub fn place_controls(mut chip: Chip, ctrl1: u8, ctrl2: u8, compare: u16) -> Answer
     ensures { λ r. ⌜ r ≡ controlsPlaced chip ctrl1 ctrl2 compare ⌝ }
 {
     if 511 < compare {
-        return Answer {
-            refused: 5,
-            chip: chip,
-        };
+        return answered(5, chip);
     }
     let regs = chip.regs;
     let stored = regs.controls(ctrl1, ctrl2, compare);
     chip.regs = stored;
-    Answer {
-        refused: 0,
-        chip: chip,
-    }
+    answered(0, chip)
 }
 
 fn fill_late(mut chip: Chip, place: u8, byte: u8) -> Chip
@@ -163,23 +170,14 @@ pub fn late_byte(chip: Chip, byte: u8) -> Answer
 {
     let state = chip::state_refusal(chip);
     if state != 0 {
-        return Answer {
-            refused: state,
-            chip: chip,
-        };
+        return answered(state, chip);
     }
     let side = chip.side;
     let waits = side.pending;
     let pending = waits.place;
     match pending {
-        Pending::Nothing => Answer {
-            refused: 0,
-            chip: chip,
-        },
-        Pending::At(place) => Answer {
-            refused: 0,
-            chip: fill_late(chip, place, byte),
-        },
+        Pending::Nothing => answered(0, chip),
+        Pending::At(place) => answered(0, fill_late(chip, place, byte)),
     }
 }
 

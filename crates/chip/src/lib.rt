@@ -5,6 +5,7 @@ ghost use lib.IntN.{ℤ};
 ghost use Rattle.rows.specs.Fine.{vmliLimit};
 ghost use Rattle.chip.specs.Chip.{powered};
 ghost use Rattle.chip.specs.Accept.{aecFine, clockFine, placeFine, accepted, stateRefusal};
+use access::Reads;
 use picture::Pen;
 use registers::Registers;
 use rows::Pending;
@@ -24,10 +25,11 @@ pub struct Chip {
     pub picture: Picture,
 }
 
-// A call's answer: the number of its refusal, 0 for none, and the chip.
+// A call's answer: the number of its refusal, 0 for none, the chip, and a tick's reads.
 pub struct Answer {
     pub refused: u8,
     pub chip: Chip,
+    pub reads: Reads,
 }
 
 // A kind that is not known is kept, for the tick to refuse.

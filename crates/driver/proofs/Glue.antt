@@ -11,22 +11,24 @@ use Rattle.driver.specs.declared.Run.{Run}
 use Rattle.driver.specs.declared.Event.{Event}
 use Rattle.driver.specs.declared.Event.the-variants as event
 use Rattle.driver.specs.declared.Made.{Made}
-use Rattle.driver.specs.Driver.{Store, hostOf, cursorAt, going≔, stepDone, made, eventOf, madeBy, madeDoing, madeAt, madeOn, storeAt}
+use Rattle.driver.specs.Driver.{Store, hostOf, cursorAt, going≔, stepDone, madeReading, made, eventOf, madeBy, madeDoing, madeAt, madeOn, storeAt}
 
 pub same-run : (r : Made) (n k : Run) (e : Event) → r ≡ made n e → n ≡ k → r ≡ made k e
 same-run r n k e a b = a ∙ ap (λ (x : Run). made x e) b
 
 -- a step, by its answer
 module _ (m : Store) (run : Run) (s : Step) (d : Done) (did : d ≡ doneOf (hostOf m (run .bank)) (run .chip) s) (r : Made) where
-  by-done : d .refused ≡ 0 → r ≡ made (stepDone run d) (eventOf s) → r ≡ madeBy run s d
+  by-done : d .refused ≡ 0 → r ≡ madeReading (stepDone run d) (eventOf s) (d .reads) → r ≡ madeBy run s d
   by-done z e = simp (eq-eqb _ _ z) e
 
   by-refused : (d .refused ≡ 0 → ⊥) → r ≡ made (going≔ false run) (event.Refused (d .refused)) → r ≡ madeBy run s d
   by-refused z e = simp (ne-eqb _ _ z) e
 
-  pub done-by : (n : Run) (e : Event) → d .refused ≡ 0 → r ≡ made n e → n ≡ stepDone run d → e ≡ eventOf s → r ≡ madeDoing m run s
+  pub done-by : (n : Run) (e : Event) → d .refused ≡ 0 → r ≡ madeReading n e (d .reads) → n ≡ stepDone run d → e ≡ eventOf s → r ≡ madeDoing m run s
   unfolding madeDoing
-  done-by n e z a b f = subst (λ (x : Done). r ≡ madeBy run s x) did (by-done z (same-run r n (stepDone run d) e a b ∙ ap (made (stepDone run d)) f))
+  done-by n e z a b f =
+      subst (λ (x : Done). r ≡ madeBy run s x) did
+      (by-done z (a ∙ ap (λ (x : Run). madeReading x e (d .reads)) b ∙ ap (λ (x : Event). madeReading (stepDone run d) x (d .reads)) f))
 
   pub refused-by : (n : Run) → (d .refused ≡ 0 → ⊥) → r ≡ made n (event.Refused (d .refused)) → n ≡ going≔ false run → r ≡ madeDoing m run s
   unfolding madeDoing

@@ -1,7 +1,7 @@
 -- What a run file's next item does: to the run and to the memory, and what there is to tell of it.
 use Prim.Native.Nat.{ℕ, _+_}
 use mathlib.Core.Bool.{Bool, true, false, cond}
-use mathlib.Core.List.{List}
+use mathlib.Core.List.{List, []}
 use lib.Dec.{eqb, ltb}
 use lib.ListN.{length, set}
 use Rattle.memory.specs.Lent.{Host, host}
@@ -14,6 +14,8 @@ use Rattle.script.specs.declared.Item.the-variants as item
 use Rattle.script.specs.declared.Cursor.{Cursor}
 use Rattle.script.specs.declared.Found.{Found}
 use Rattle.script.specs.Machinery.Cursor.{startOf}
+use Rattle.access.specs.declared.Reads.{Reads}
+use Rattle.access.specs.Reads.{told}
 use Rattle.chip.specs.Chip.{powered}
 use Rattle.run.specs.declared.Done.{Done}
 use Rattle.run.specs.Run.{doneOf}
@@ -70,8 +72,12 @@ stepDone r d = record { chip = d .chip; cursor = r .cursor; done = oneMore (r .d
 
 -- ---- one item
 
+abbrev pub madeReading : Run → Event → Reads → Made
+madeReading r e reads = record { run = r; event = e; reads = reads }
+
+-- nothing is read
 abbrev pub made : Run → Event → Made
-made r e = record { run = r; event = e }
+made r e = madeReading r e (told [])
 
 -- 01, chart: a tick is told, no other step
 unfoldable pub eventOf : Step → Event
@@ -85,9 +91,9 @@ eventOf (step.Bank bank) = event.Nothing
 eventOf (step.Control1 value) = event.Nothing
 eventOf (step.Control2 value) = event.Nothing
 
--- 01, Run file: a step by its answer; a refusal ends the run
+-- 01, Run file: a step by its answer; a refusal ends the run; 02 (viii): a step that is done has its reads
 abbrev pub madeBy : Run → Step → Done → Made
-madeBy r s d = cond (eqb (d .refused) 0) (made (stepDone r d) (eventOf s)) (made (going≔ false r) (event.Refused (d .refused)))
+madeBy r s d = cond (eqb (d .refused) 0) (madeReading (stepDone r d) (eventOf s) (d .reads)) (made (going≔ false r) (event.Refused (d .refused)))
 
 unfoldable pub madeDoing : Store → Run → Step → Made
 madeDoing m r s = madeBy r s (doneOf (hostOf m (r .bank)) (r .chip) s)

@@ -1,6 +1,7 @@
 // A run file at work: what it says next, done on a chip and its memory, turn by turn. What is told of a turn is the caller's affair.
 ghost use mathlib.Core.Path.{_≡_};
-ghost use Rattle.driver.specs.Driver.{store, setIn, storeSet, begunOf, cursorAt, going≔, oneMore, stepDone, made, eventOf, madeDoing, madeOn, storeAt};
+ghost use Rattle.driver.specs.Driver.{store, setIn, storeSet, begunOf, cursorAt, going≔, oneMore, stepDone, madeReading, made, eventOf, madeDoing, madeOn, storeAt};
+use access::Reads;
 use chip::Chip;
 use run::Done;
 use script::Cursor;
@@ -26,10 +27,11 @@ pub enum Event {
     Refused(u8),
 }
 
-// The run after a turn, and what there is to tell.
+// The run after a turn, what there is to tell, and a tick's reads.
 pub struct Made {
     pub run: Run,
     pub event: Event,
+    pub reads: Reads,
 }
 
 // ---- the run
@@ -146,10 +148,17 @@ fn event_of(step: Step) -> Event
     }
 }
 
+fn with_reads(run: Run, event: Event, reads: Reads) -> Made
+    ensures { λ r. ⌜ r ≡ madeReading run event reads ⌝ }
+{
+    Made { run, event, reads }
+}
+
+// Nothing is read.
 fn with_event(run: Run, event: Event) -> Made
     ensures { λ r. ⌜ r ≡ made run event ⌝ }
 {
-    Made { run, event }
+    with_reads(run, event, access::no_reads())
 }
 
 fn act(run: Run, step: Step, ram: &[u8], rom: &[u8], colour: &[u8]) -> Made
@@ -158,7 +167,7 @@ fn act(run: Run, step: Step, ram: &[u8], rom: &[u8], colour: &[u8]) -> Made
     let chip = run.chip;
     let did = run::step(chip, run.bank, step, ram, rom, colour);
     if did.refused == 0 {
-        return with_event(counted(run, did), event_of(step));
+        return with_reads(counted(run, did), event_of(step), did.reads);
     }
     with_event(set_going(run, false), Event::Refused(did.refused))
 }

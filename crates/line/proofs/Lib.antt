@@ -1,3 +1,4 @@
 pub mod Join
 pub mod Few
 pub mod Back
+pub mod Copy

@@ -1,11 +1,19 @@
 -- A number as the chart writes it, and where the text goes.
 use Prim.Native.Nat.{ℕ, _+_, _/_, _%_}
+use Prim.Native.Char.{code}
+use Prim.Native.String.{String}
+use Prim.Native.String as S
 use mathlib.Core.Path.{_≡_}
 use mathlib.Core.Bool.{cond}
 use mathlib.Core.List.{List, [], _∷_, _++_}
 use lib.Dec.{ltb}
 use lib.ListN.{length, set}
 use Rattle.line.specs.declared.Eight.{Eight}
+
+-- a text as bytes
+unfoldable pub ascii : String → List ℕ
+ascii S.[] = []
+ascii (S._∷_ c s) = code c ∷ ascii s
 
 -- the ASCII code of a number's last digit
 abbrev pub glyphOf : ℕ → ℕ

@@ -1,4 +1,4 @@
-// The chart's text: a tick's eight numbers, in decimal, in a lent buffer.
+// The chart's text: a tick's eight numbers, in decimal, in a lent buffer; and the pieces that every text is made of.
 ghost use mathlib.Core.Path.{_≡_};
 ghost use mathlib.Core.List.{[], _∷_};
 ghost use Prim.Native.Nat.{_+_, _≤_, _<_, _%_};
@@ -60,12 +60,25 @@ pub fn numbers(chip: Chip) -> Eight
 // ---- text at a place of a buffer; each answers the place after it
 
 // A byte.
-fn byte(out: &mut [u8], at: usize, value: u8) -> usize
+pub fn byte(out: &mut [u8], at: usize, value: u8) -> usize
     requires { ⌜ at + 1 ≤ length (now out) ⌝ }
     ensures { λ r. ⌜ (r ≡ at + 1) × Written (now (out .entry)) at (value ∷ []) (now (out .exit)) r ⌝ }
 {
     out[at] = value;
     at + 1
+}
+
+// Bytes that are there already.
+pub fn text(out: &mut [u8], at: usize, words: &[u8]) -> usize
+    requires { ⌜ at + length (now words) ≤ length (now out) ⌝ }
+    ensures { λ r. ⌜ (r ≡ at + length (now (words .entry))) × Written (now (out .entry)) at (now (words .entry)) (now (out .exit)) r ⌝ }
+{
+    let mut i = 0;
+    while i < words.len() {
+        out[at + i] = words[i];
+        i += 1;
+    }
+    at + i
 }
 
 // A number's last digit.

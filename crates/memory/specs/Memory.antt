@@ -18,10 +18,11 @@ unfoldable pub inRom : ℕ → ℕ → Bool
 inRom bank address = (eqb bank 0 || eqb bank 2) && (leb 0x1000 address && leb address 0x1FFF)
 
 -- 01, Memory: ROM there, RAM everywhere else; both clock phases read alike
+-- 02 (viii): the address as it is on the bus, its fourteen bits, before ROM is chosen
 unfoldable pub readAt : List ℕ → List ℕ → ℕ → ℕ → Found
 readAt ram rom bank address =
     let at = address % 0x4000 in
-    record { byte = cond (inRom bank at) (getD rom (at - 0x1000) 0) (getD ram at 0) }
+    record { byte = cond (inRom bank at) (getD rom (at - 0x1000) 0) (getD ram at 0); address = at }
 
 -- 01, Numbers: 1 where a lent memory has another length, 2 where the bank is above 3, 0 for none
 unfoldable pub blockRefusal : List ℕ → List ℕ → ℕ → ℕ

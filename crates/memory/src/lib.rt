@@ -4,9 +4,10 @@ ghost use mathlib.Core.Bool.{Bool};
 ghost use Rattle.memory.specs.Memory.{Lent, inRom, readAt, blockRefusal, blockOf, blockPlace};
 ghost use Rattle.memory.specs.Lent.{host, lentRefusal};
 
-// What a read found.
+// What a read found: the byte, and the address as the chip puts it on the bus.
 pub struct Found {
     pub byte: u8,
+    pub address: u16,
 }
 
 // Whether an address of the chip's shows the character ROM.
@@ -24,10 +25,16 @@ pub fn read(ram: &[u8], rom: &[u8], bank: u8, address: u16) -> Found
     let at = address % 16384;
     if in_rom(bank, at) {
         let i = (at % 4096) as usize;
-        return Found { byte: rom[i] };
+        return Found {
+            byte: rom[i],
+            address: at,
+        };
     }
     let i = at as usize;
-    Found { byte: ram[i] }
+    Found {
+        byte: ram[i],
+        address: at,
+    }
 }
 
 // The number of a block question's refusal: 1 for a length, 2 for a bank, 0 for none.

@@ -8,15 +8,21 @@ use lib.IntN.{ℤ}
 use borrow.Author.Tests.{not-true, not-false}
 use Rattle.laws.specs.Pick.{pick}
 use Rattle.schedule.specs.Diagram.{happens, graphicsCleared, lateIdle}
+use Rattle.schedule.specs.declared.Reasons.{Reasons}
+use Rattle.schedule.specs.Machinery.Reads.{pointerReasons, dataReasons, gapReasons}
 use Rattle.memory.specs.Memory.{readAt}
 use Rattle.memory.specs.declared.Found.{Found}
 use Rattle.access.specs.declared.Latch.{Latch}
-use Rattle.access.specs.Matrix.{filled}
+use Rattle.access.specs.declared.Spots.{Spots}
+use Rattle.access.specs.Machinery.Noted.{notedOf}
+use Rattle.access.specs.Matrix.{fillSpot, filled}
 use Rattle.access.specs.Merge.{sinceOf, latchOf, latched}
 use Rattle.access.specs.Graphics.{accessAddress}
-use Rattle.access.specs.Slots.{pointersAfter, byteTwoAfter, dataAfter, wordsAfter}
+use Rattle.access.specs.Slots.{pointerSpots, dataSpots, pointersAfter, byteTwoAfter, dataAfter, wordsAfter}
 use Rattle.side.specs.declared.Orders.{Orders}
 use Rattle.picture.specs.declared.Pen.{Pen}
+use Rattle.picture.specs.declared.Drawn.{Drawn}
+use Rattle.picture.specs.Machinery.Spots.{drawnBy, slotNoted}
 use Rattle.picture.specs.Pen.{sameClock, characterOf, graphicsOf, penAfter, matrixAfter, slotted}
 
 -- a cycle without a graphics access, and one with it
@@ -41,7 +47,7 @@ module _ (ch : ℕ) (orders : Orders) (clock : ℤ) (p : Pen) (mode ptrs : ℕ) 
       → not (orders .graphics) ≡ true
       → past ≡ happens graphicsCleared (orders .cycle)
       → r ≡ pick past 0 (p .gfx)
-      → r ≡ graphicsOf ch orders clock p mode ptrs ram rom bank
+      → _≡_ {A = Found} (record { byte = r; address = 0 }) (graphicsOf ch orders clock p mode ptrs ram rom bank)
   unfolding graphicsOf
   cleared t past r = simp (r, past, not-true (orders .graphics) t)
 
@@ -51,7 +57,7 @@ module _ (ch : ℕ) (orders : Orders) (clock : ℤ) (p : Pen) (mode ptrs : ℕ) 
       → same ≡ sameClock clock (p .forced)
       → address ≡ accessAddress (orders .moves) (orders .waiting && late && same) mode (p .old) ptrs ch (orders .vc) (orders .rc) bank
       → found ≡ readAt ram rom bank address
-      → found .byte ≡ graphicsOf ch orders clock p mode ptrs ram rom bank
+      → found ≡ graphicsOf ch orders clock p mode ptrs ram rom bank
   unfolding graphicsOf
   fetches t late same address found = simp (found, address, late, same, not-false (orders .graphics) t)
 
@@ -59,33 +65,53 @@ module _ (ch : ℕ) (orders : Orders) (clock : ℤ) (p : Pen) (mode ptrs : ℕ) 
 abbrev made : Latch → ℕ → ℕ → ℕ → ℤ → Pen
 made x g mode old forced = record { ch = x .ch; carry = x .carry; gfx = g; mode = mode; old = old; changing = false; forced = forced }
 
+abbrev madeSpots : ℕ → ℕ → Spots
+madeSpots x y = record { first = x; second = y }
+
 module _ (m : List ℕ) (orders : Orders) (clock : ℤ) (p : Pen) (mode ptrs : ℕ) (ram rom colour : List ℕ) (bank : ℕ) where
-  pub drawn : {x : Latch} {g old : ℕ} {forced : ℤ} {m' m'' : List ℕ}
+  pub drawn : {x : Latch} {g : Found} {old at : ℕ} {forced : ℤ} {m' m'' : List ℕ}
       → x ≡ latchOf (characterOf m orders clock p)
       → m' ≡ characterOf m orders clock p .matrix
       → g ≡ graphicsOf (x .ch) orders clock p mode ptrs ram rom bank
+      → at ≡ fillSpot (orders .fills) (orders .column) ptrs ram rom bank
       → m'' ≡ filled m' (orders .fills) (orders .place) (orders .column) ptrs ram rom colour bank
       → old ≡ pick (p .changing) mode (p .old)
       → forced ≡ p .forced
-      → (made x g mode old forced ≡ penAfter m orders clock p mode ptrs ram rom bank) × (m'' ≡ matrixAfter m orders clock p ptrs ram rom colour bank)
-  unfolding penAfter matrixAfter
-  drawn x m' g m'' old forced = (simp (g, old, forced, x), simp (m'', m'))
+      → (_≡_ {A = Drawn} (record { pen = made x (g .byte) mode old forced; spots = madeSpots (g .address) at }) (drawnBy m orders clock p mode ptrs ram rom bank)) × (m'' ≡ matrixAfter m orders clock p ptrs ram rom colour bank)
+  unfolding drawnBy penAfter matrixAfter
+  drawn x m' g at m'' old forced = (simp (g, at, old, forced, x), simp (m'', m'))
 
 -- a pointer slot, and a data slot
 module _ (p b w : List ℕ) (orders : Orders) (ptrs : ℕ) (ram rom : List ℕ) (bank : ℕ) where
-  pub pointed : {p' b' : List ℕ}
+  pub pointed : {p' b' : List ℕ} {why : Reasons} {at : Spots} {n : ℕ}
       → orders .pointing ≡ true
+      → at ≡ pointerSpots (orders .sprite) (orders .mask) (orders .mc) ptrs ram rom bank
+      → why ≡ pointerReasons (eqb (orders .sprite) 0) (orders .mask) (orders .low)
+      → n ≡ notedOf why at
       → p' ≡ pointersAfter p (orders .sprite) ptrs ram rom bank
       → b' ≡ byteTwoAfter b (orders .sprite) (eqb (orders .sprite) 0) (orders .mask) (orders .mc) (orders .low) ptrs ram rom bank
-      → (p' ≡ slotted p b w orders ptrs ram rom bank .pointers) × ((b' ≡ slotted p b w orders ptrs ram rom bank .bytes) × (w ≡ slotted p b w orders ptrs ram rom bank .words))
-  unfolding slotted
-  pointed t pointers bytes = (simp (pointers, t), (simp (bytes, t), simp t))
+      → (n ≡ slotNoted p orders ptrs ram rom bank) × ((p' ≡ slotted p b w orders ptrs ram rom bank .pointers) × ((b' ≡ slotted p b w orders ptrs ram rom bank .bytes) × (w ≡ slotted p b w orders ptrs ram rom bank .words)))
+  unfolding slotNoted slotted
+  pointed t at why n pointers bytes = (simp (n, why, at, t), (simp (pointers, t), (simp (bytes, t), simp t)))
 
-  pub fetched : {b' w' : List ℕ}
+  pub fetched : {b' w' : List ℕ} {why : Reasons} {at : Spots} {n : ℕ}
       → orders .pointing ≡ false
       → orders .fetching ≡ true
+      → at ≡ dataSpots p (orders .sprite) (orders .mask) (orders .mc) ram rom bank
+      → why ≡ dataReasons (orders .mask) (orders .low)
+      → n ≡ notedOf why at
       → b' ≡ dataAfter p b (orders .sprite) (orders .mask) (orders .mc) (orders .low) ram rom bank
       → w' ≡ wordsAfter p b w (orders .sprite) (orders .mask) (orders .mc) (orders .low) ram rom bank
-      → (p ≡ slotted p b w orders ptrs ram rom bank .pointers) × ((b' ≡ slotted p b w orders ptrs ram rom bank .bytes) × (w' ≡ slotted p b w orders ptrs ram rom bank .words))
-  unfolding slotted
-  fetched t u bytes words = (simp (t, u), (simp (bytes, t, u), simp (words, t, u)))
+      → (n ≡ slotNoted p orders ptrs ram rom bank) × ((p ≡ slotted p b w orders ptrs ram rom bank .pointers) × ((b' ≡ slotted p b w orders ptrs ram rom bank .bytes) × (w' ≡ slotted p b w orders ptrs ram rom bank .words)))
+  unfolding slotNoted slotted
+  fetched t u at why n bytes words = (simp (n, why, at, t, u), (simp (t, u), (simp (bytes, t, u), simp (words, t, u))))
+
+  -- a cycle without a slot
+  pub gapped : {why : Reasons} {n : ℕ}
+      → orders .pointing ≡ false
+      → orders .fetching ≡ false
+      → why ≡ gapReasons (orders .cycle)
+      → n ≡ notedOf why (madeSpots 0x3FFF 0)
+      → (n ≡ slotNoted p orders ptrs ram rom bank) × ((p ≡ slotted p b w orders ptrs ram rom bank .pointers) × ((b ≡ slotted p b w orders ptrs ram rom bank .bytes) × (w ≡ slotted p b w orders ptrs ram rom bank .words)))
+  unfolding slotNoted slotted
+  gapped t u why n = (simp (n, why, t, u), (simp (t, u), (simp (t, u), simp (t, u))))

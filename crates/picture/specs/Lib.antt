@@ -1,2 +1,4 @@
 pub mod Pen
+pub mod Reads
 pub mod Set
+pub mod Machinery

@@ -7,6 +7,7 @@ use lib.Dec.{eqb}
 use Rattle.laws.specs.Pick.{pick}
 use Rattle.schedule.specs.Diagram.{happens, graphicsCleared, lateIdle}
 use Rattle.memory.specs.Memory.{readAt}
+use Rattle.memory.specs.declared.Found.{Found}
 use Rattle.access.specs.Matrix.{filled}
 use Rattle.access.specs.Merge.{sinceOf, Merging, merging, latched}
 use Rattle.access.specs.Graphics.{accessAddress}
@@ -32,13 +33,13 @@ characterOf matrix orders clock p =
     (latched matrix (orders .moves) (orders .hidden) (orders .plain) (orders .cycle) (sinceOf clock (p .forced)) (orders .vmli) (p .ch) (p .carry))
     (merging (p .ch) (p .carry) matrix)
 
--- 01, tick 8: the byte of the graphics access, 0 in the cycle after the last
-unfoldable pub graphicsOf : ℕ → Orders → ℤ → Pen → ℕ → ℕ → List ℕ → List ℕ → ℕ → ℕ
+-- 01, tick 8: what the graphics access reads; without one the byte stays, and is 0 in the cycle after the last
+unfoldable pub graphicsOf : ℕ → Orders → ℤ → Pen → ℕ → ℕ → List ℕ → List ℕ → ℕ → Found
 graphicsOf ch orders clock p mode ptrs ram rom bank =
     let forced = orders .waiting && happens lateIdle (orders .cycle) && sameClock clock (p .forced) in
     cond (orders .graphics)
-    (readAt ram rom bank (accessAddress (orders .moves) forced mode (p .old) ptrs ch (orders .vc) (orders .rc) bank) .byte)
-    (pick (happens graphicsCleared (orders .cycle)) 0 (p .gfx))
+    (readAt ram rom bank (accessAddress (orders .moves) forced mode (p .old) ptrs ch (orders .vc) (orders .rc) bank))
+    (record { byte = pick (happens graphicsCleared (orders .cycle)) 0 (p .gfx); address = 0 })
 
 -- 01, tick 6 and 10: the mode of this tick; a mode-changing flag is cleared and the mode before moves on
 unfoldable pub penAfter : List ℕ → Orders → ℤ → Pen → ℕ → ℕ → List ℕ → List ℕ → ℕ → Pen
@@ -47,7 +48,7 @@ penAfter matrix orders clock p mode ptrs ram rom bank =
     record {
       ch = latch .ch;
       carry = latch .carry;
-      gfx = graphicsOf (latch .ch) orders clock p mode ptrs ram rom bank;
+      gfx = graphicsOf (latch .ch) orders clock p mode ptrs ram rom bank .byte;
       mode = mode;
       old = pick (p .changing) mode (p .old);
       changing = false;

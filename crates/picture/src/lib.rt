@@ -7,8 +7,12 @@ ghost use lib.IntN.{ℤ};
 ghost use Rattle.laws.specs.Clock.{inRange};
 ghost use Rattle.memory.specs.Memory.{Lent};
 ghost use Rattle.access.specs.Merge.{latchOf};
-ghost use Rattle.picture.specs.Pen.{freshPen, sameClock, characterOf, graphicsOf, penAfter, Latches, slotted, matrixAfter};
+ghost use Rattle.picture.specs.Machinery.Spots.{drawnBy, slotNoted, litNoted, darkNoted};
+ghost use Rattle.picture.specs.Pen.{freshPen, sameClock, characterOf, graphicsOf, slotted, matrixAfter};
 use access::Latch;
+use access::Spots;
+use memory::Found;
+use schedule::Reasons;
 use side::Orders;
 
 // The picture's numbers; its four arrays are lent beside it.
@@ -20,6 +24,12 @@ pub struct Pen {
     pub old: u8,
     pub changing: bool,
     pub forced: i64,
+}
+
+// The picture's numbers after a cycle, and where its graphics and its character access read.
+pub struct Drawn {
+    pub pen: Pen,
+    pub spots: Spots,
 }
 
 impl Pen {
@@ -71,7 +81,7 @@ pub fn character(matrix: &mut [u16], orders: Orders, clock: i64, pen: Pen) -> La
     )
 }
 
-// The graphics byte after this cycle.
+// The graphics byte after this cycle, and where its access read; 0 where it has none.
 pub fn graphics(
     ch: u16,
     orders: Orders,
@@ -82,13 +92,17 @@ pub fn graphics(
     ram: &[u8],
     rom: &[u8],
     bank: u8,
-) -> u8
+) -> Found
     requires { ⌜ Lent (now ram) (now rom) ⌝ }
     ensures { λ r. ⌜ r ≡ graphicsOf ch orders clock pen mode ptrs (now (ram .entry)) (now (rom .entry)) bank ⌝ }
 {
     let graphics = orders.graphics;
     if !graphics {
-        return laws::pick8(schedule::graphics_cleared(orders.cycle), 0, pen.gfx);
+        let kept = laws::pick8(schedule::graphics_cleared(orders.cycle), 0, pen.gfx);
+        return Found {
+            byte: kept,
+            address: 0,
+        };
     }
     let forced = orders.waiting & schedule::late_idle(orders.cycle) & same_clock(clock, pen.forced);
     let address = access::access_address(
@@ -102,8 +116,7 @@ pub fn graphics(
         orders.rc,
         bank,
     );
-    let found = memory::read(ram, rom, bank, address);
-    found.byte
+    memory::read(ram, rom, bank, address)
 }
 
 // The picture's numbers after a cycle; the matrix line takes the character access of the same cycle.
@@ -118,13 +131,13 @@ pub fn draw(
     rom: &[u8],
     colour: &[u8],
     bank: u8,
-) -> Pen
+) -> Drawn
     requires { ⌜ length (now matrix) ≡ 40 ⌝ ∗ ⌜ inRange clock × inRange (pen .forced) ⌝ ∗ ⌜ Lent (now ram) (now rom) ⌝ ∗ ⌜ length (now colour) ≡ 1024 ⌝ }
-    ensures { λ r. ⌜ r ≡ penAfter (now (matrix .entry)) orders clock pen mode ptrs (now (ram .entry)) (now (rom .entry)) bank ⌝ ∗ ⌜ now (matrix .exit) ≡ matrixAfter (now (matrix .entry)) orders clock pen ptrs (now (ram .entry)) (now (rom .entry)) (now (colour .entry)) bank ⌝ }
+    ensures { λ r. ⌜ r ≡ drawnBy (now (matrix .entry)) orders clock pen mode ptrs (now (ram .entry)) (now (rom .entry)) bank ⌝ ∗ ⌜ now (matrix .exit) ≡ matrixAfter (now (matrix .entry)) orders clock pen ptrs (now (ram .entry)) (now (rom .entry)) (now (colour .entry)) bank ⌝ }
 {
     let latch = character(matrix, orders, clock, pen);
-    let gfx = graphics(latch.ch, orders, clock, pen, mode, ptrs, ram, rom, bank);
-    access::fill(
+    let found = graphics(latch.ch, orders, clock, pen, mode, ptrs, ram, rom, bank);
+    let filled = access::fill(
         matrix,
         orders.fills,
         orders.place,
@@ -136,14 +149,22 @@ pub fn draw(
         bank,
     );
     let old = laws::pick8(pen.changing, mode, pen.old);
-    Pen {
+    let next = Pen {
         ch: latch.ch,
         carry: latch.carry,
-        gfx: gfx,
+        gfx: found.byte,
         mode: mode,
         old: old,
         changing: false,
         forced: pen.forced,
+    };
+    let spots = Spots {
+        first: found.address,
+        second: filled,
+    };
+    Drawn {
+        pen: next,
+        spots: spots,
     }
 }
 
@@ -159,12 +180,12 @@ pub fn draw_dark(
     rom: &[u8],
     colour: &[u8],
     bank: u8,
-) -> Pen
+) -> Drawn
     requires { ⌜ length (now matrix) ≡ 40 ⌝ ∗ ⌜ orders .graphics ≡ Bool.false ⌝ ∗ ⌜ Lent (now ram) (now rom) ⌝ ∗ ⌜ length (now colour) ≡ 1024 ⌝ }
-    ensures { λ r. ⌜ r ≡ penAfter (now (matrix .entry)) orders clock pen mode ptrs (now (ram .entry)) (now (rom .entry)) bank ⌝ ∗ ⌜ now (matrix .exit) ≡ matrixAfter (now (matrix .entry)) orders clock pen ptrs (now (ram .entry)) (now (rom .entry)) (now (colour .entry)) bank ⌝ }
+    ensures { λ r. ⌜ r ≡ drawnBy (now (matrix .entry)) orders clock pen mode ptrs (now (ram .entry)) (now (rom .entry)) bank ⌝ ∗ ⌜ now (matrix .exit) ≡ matrixAfter (now (matrix .entry)) orders clock pen ptrs (now (ram .entry)) (now (rom .entry)) (now (colour .entry)) bank ⌝ }
 {
     let gfx = laws::pick8(schedule::graphics_cleared(orders.cycle), 0, pen.gfx);
-    access::fill(
+    let filled = access::fill(
         matrix,
         orders.fills,
         orders.place,
@@ -176,7 +197,7 @@ pub fn draw_dark(
         bank,
     );
     let before = laws::pick8(pen.changing, mode, pen.old);
-    Pen {
+    let next = Pen {
         ch: pen.ch,
         carry: pen.carry,
         gfx: gfx,
@@ -184,10 +205,18 @@ pub fn draw_dark(
         old: before,
         changing: false,
         forced: pen.forced,
+    };
+    let spots = Spots {
+        first: 0,
+        second: filled,
+    };
+    Drawn {
+        pen: next,
+        spots: spots,
     }
 }
 
-// The sprite slot of a cycle, if it has one.
+// The sprite slot of a cycle, if it has one; and the reads of the slot, or of the gap where there is none, in one number.
 pub fn slot(
     pointers: &mut [u8],
     bytes: &mut [u8],
@@ -197,15 +226,15 @@ pub fn slot(
     ram: &[u8],
     rom: &[u8],
     bank: u8,
-)
+) -> u64
     requires { ⌜ (length (now pointers) ≡ 8) × (length (now bytes) ≡ 24) × (length (now words) ≡ 8) ⌝ ∗ ⌜ orders .sprite < 8 ⌝ ∗ ⌜ Lent (now ram) (now rom) ⌝ }
-    ensures { λ r. ⌜ now (pointers .exit) ≡ slotted (now (pointers .entry)) (now (bytes .entry)) (now (words .entry)) orders ptrs (now (ram .entry)) (now (rom .entry)) bank .pointers ⌝ ∗ ⌜ now (bytes .exit) ≡ slotted (now (pointers .entry)) (now (bytes .entry)) (now (words .entry)) orders ptrs (now (ram .entry)) (now (rom .entry)) bank .bytes ⌝ ∗ ⌜ now (words .exit) ≡ slotted (now (pointers .entry)) (now (bytes .entry)) (now (words .entry)) orders ptrs (now (ram .entry)) (now (rom .entry)) bank .words ⌝ }
+    ensures { λ r. ⌜ r ≡ slotNoted (now (pointers .entry)) orders ptrs (now (ram .entry)) (now (rom .entry)) bank ⌝ ∗ ⌜ now (pointers .exit) ≡ slotted (now (pointers .entry)) (now (bytes .entry)) (now (words .entry)) orders ptrs (now (ram .entry)) (now (rom .entry)) bank .pointers ⌝ ∗ ⌜ now (bytes .exit) ≡ slotted (now (pointers .entry)) (now (bytes .entry)) (now (words .entry)) orders ptrs (now (ram .entry)) (now (rom .entry)) bank .bytes ⌝ ∗ ⌜ now (words .exit) ≡ slotted (now (pointers .entry)) (now (bytes .entry)) (now (words .entry)) orders ptrs (now (ram .entry)) (now (rom .entry)) bank .words ⌝ }
 {
     let k = orders.sprite;
     let pointing = orders.pointing;
     let fetching = orders.fetching;
     if pointing {
-        access::pointer_slot(
+        let at = access::pointer_slot(
             pointers,
             bytes,
             k,
@@ -218,10 +247,13 @@ pub fn slot(
             rom,
             bank,
         );
-        return;
+        return access::noted(
+            schedule::reasons_pointer(k == 0, orders.mask, orders.low),
+            at,
+        );
     }
     if fetching {
-        access::data_slot(
+        let at = access::data_slot(
             pointers,
             bytes,
             words,
@@ -233,5 +265,37 @@ pub fn slot(
             rom,
             bank,
         );
+        return access::noted(schedule::reasons_data(orders.mask, orders.low), at);
     }
+    let at = Spots {
+        first: 0x3FFF,
+        second: 0,
+    };
+    access::noted(schedule::reasons_gap(orders.cycle), at)
+}
+
+// The reads of a cycle with a graphics access: `at` is where `draw` read.
+pub fn noted_lit(orders: Orders, at: Spots) -> u64
+    ensures { λ r. ⌜ r ≡ litNoted orders at ⌝ }
+{
+    access::noted(schedule::reasons_lit(orders.moves, orders.fills), at)
+}
+
+// The reads of a cycle without one: its slot's, or the matrix's where there is no slot.
+pub fn noted_dark(orders: Orders, slot: u64, at: Spots) -> u64
+    ensures { λ r. ⌜ r ≡ darkNoted orders slot at ⌝ }
+{
+    let fills = orders.fills;
+    if fills {
+        let why = Reasons {
+            first: schedule::MATRIX,
+            second: 0,
+        };
+        let only = Spots {
+            first: at.second,
+            second: 0,
+        };
+        return access::noted(why, only);
+    }
+    slot
 }

@@ -1,16 +1,18 @@
 // Answers saved cases, one after the other: a call, what it is called with and the chip before it go in,
-// the refusal, the answer and the chip after it come out. The format is `Replay`.
+// the refusal, the answer, what a tick read and the chip after it come out. The format is `Replay`.
 ghost use mathlib.Core.Path.{_≡_};
 ghost use lib.ListN.{length};
+use access::Reads;
 use chip::Chip;
 use libc::STDIN_FILENO;
 use libc::STDOUT_FILENO;
 use script::Step;
 
-// What a call leaves: its refusal, its answer and the chip.
+// What a call leaves: its refusal, its answer, what a tick read and the chip.
 struct Told {
     refused: u8,
     value: u16,
+    reads: Reads,
     chip: Chip,
 }
 
@@ -18,6 +20,7 @@ fn valued(value: u16, chip: Chip) -> Told {
     Told {
         refused: 0,
         value: value,
+        reads: access::no_reads(),
         chip: chip,
     }
 }
@@ -35,9 +38,11 @@ fn stepped(chip: Chip, memories: &[u8], bank: u8, step: Step) -> Told
         &memories[20480..21504],
     );
     let after = done.chip;
+    let reads = done.reads;
     Told {
         refused: done.refused,
         value: 0,
+        reads: reads,
         chip: after,
     }
 }
@@ -91,10 +96,19 @@ fn is_call(call: u8) -> bool {
 // Writes one answer; false where that fails.
 fn tell(told: Told) -> bool {
     let chip = told.chip;
+    let reads = told.reads;
+    let first = reads.first;
+    let second = reads.second;
     let head = [
         told.refused,
         (told.value % 256) as u8,
         (told.value / 256) as u8,
+        first.reason,
+        (first.address % 256) as u8,
+        (first.address / 256) as u8,
+        second.reason,
+        (second.address % 256) as u8,
+        (second.address / 256) as u8,
     ];
     let mut body = [0u8; 309];
     scene::encode(chip, &mut body);

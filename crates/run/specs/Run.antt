@@ -1,20 +1,23 @@
 -- One step of a run file, on a chip and the bank.
 use Prim.Native.Nat.{ℕ}
+use mathlib.Core.List.{[]}
 use Rattle.memory.specs.Lent.{Host}
 use Rattle.script.specs.declared.Step.{Step}
 use Rattle.script.specs.declared.Step.the-variants as step
+use Rattle.access.specs.Reads.{told}
 use Rattle.chip.specs.declared.Chip.{Chip}
 use Rattle.chip.specs.declared.Answer.{Answer}
 use Rattle.sequencer.specs.Tick.{ticked}
 use Rattle.calls.specs.Calls.{registerWritten, expandAt, comparesBy, control1Written, control2Written, controlsPlaced, lateTaken}
 use Rattle.run.specs.declared.Done.{Done}
 
--- what a call answers, the bank as it was
+-- what a call answers, the bank as it was; 02 (viii): a tick's reads with it
 abbrev pub fromAnswer : Answer → ℕ → Done
-fromAnswer a bank = record { refused = a .refused; chip = a .chip; bank = bank }
+fromAnswer a bank = record { refused = a .refused; chip = a .chip; bank = bank; reads = a .reads }
 
+-- no step but a tick reads
 abbrev pub fromChip : Chip → ℕ → Done
-fromChip c bank = record { refused = 0; chip = c; bank = bank }
+fromChip c bank = record { refused = 0; chip = c; bank = bank; reads = told [] }
 
 -- 01, Run file: the kinds, each the call that it stands for
 unfoldable pub doneOf : Host → Chip → Step → Done

@@ -2,15 +2,17 @@
 ghost use mathlib.Core.Path.{_≡_};
 ghost use Rattle.memory.specs.Lent.{host};
 ghost use Rattle.run.specs.Run.{fromAnswer, fromChip, doneOf};
+use access::Reads;
 use chip::Answer;
 use chip::Chip;
 use script::Step;
 
-// The number of the refusal, 0 for none, and the chip and the bank after the step.
+// The number of the refusal, 0 for none, the chip and the bank after the step, and a tick's reads.
 pub struct Done {
     pub refused: u8,
     pub chip: Chip,
     pub bank: u8,
+    pub reads: Reads,
 }
 
 // A call's answer, the bank as it was.
@@ -18,21 +20,25 @@ fn from_answer(answer: Answer, bank: u8) -> Done
     ensures { λ r. ⌜ r ≡ fromAnswer answer bank ⌝ }
 {
     let chip = answer.chip;
+    let reads = answer.reads;
     Done {
         refused: answer.refused,
         chip,
         bank,
+        reads,
     }
 }
 
-// What a call that refuses nothing leaves.
+// What a call that refuses nothing and reads nothing leaves.
 fn from_chip(chip: Chip, bank: u8) -> Done
     ensures { λ r. ⌜ r ≡ fromChip chip bank ⌝ }
 {
+    let reads = access::no_reads();
     Done {
         refused: 0,
         chip,
         bank,
+        reads,
     }
 }
 

@@ -8,6 +8,7 @@ use Rattle.schedule.specs.Kind.{Kind, lastCycle, firstPointer, pointerSl
 -- an event that names a kind has its cycle by the kind; all others have the same on both
 pub data Event : Type 0 where
   lineBegins frameEnds : Event
+  refresh : Event
   matrixRequest vcLoad accessChosen characterAccess vmliCounts graphicsAccess lateIdle accessEnds graphicsCleared rowEnds : Event
   crunch mcbaseStep : Event
   mainRemembered left40 left38 right38 right40 : Event
@@ -24,6 +25,8 @@ abbrev pub diagram : Event → Cycles
 diagram lineBegins = at 1  -- 01, tick 3: the raster goes on
 diagram frameEnds = at 2  -- 01, tick 4: raster 0 after the last line
 diagram (lineEnds k) = at (lastCycle k)  -- Bauer 3.9 rules 2 and 3: cycle 63; on the 6567R8 the last one too, DECISIONS 73
+-- the memory's refresh
+diagram refresh = from 11 15  -- Bauer 3.6.3: r-accesses, of which no read is reported, DIFFERENCES 16
 -- the matrix and the graphics
 diagram matrixRequest = from 12 54  -- Bauer 3.7.2 rule 3: BA low on a bad line
 diagram vcLoad = at 14  -- Bauer 3.7.2 rule 2

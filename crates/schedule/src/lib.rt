@@ -2,10 +2,11 @@
 ghost use mathlib.Core.Path.{_≡_};
 ghost use mathlib.Core.Bool.{Bool};
 ghost use Rattle.schedule.specs.Kind.{known, kindOf, lastCycle, lastLine, firstPointer};
-ghost use Rattle.schedule.specs.Diagram.{Event, lineBegins, frameEnds, matrixRequest, vcLoad, accessChosen, characterAccess, vmliCounts, graphicsAccess, lateIdle, accessEnds, graphicsCleared, rowEnds, crunch, mcbaseStep, firstPhase, secondPhase, mcLoad, mainRemembered, left40, left38, right38, right40, lineEnds, happens, slotAfterBus};
+ghost use Rattle.schedule.specs.Diagram.{Event, lineBegins, frameEnds, refresh, matrixRequest, vcLoad, accessChosen, characterAccess, vmliCounts, graphicsAccess, lateIdle, accessEnds, graphicsCleared, rowEnds, crunch, mcbaseStep, firstPhase, secondPhase, mcLoad, mainRemembered, left40, left38, right38, right40, lineEnds, happens, slotAfterBus};
 ghost use Rattle.schedule.specs.Requests.{maskAt, spritesIn};
 ghost use Rattle.schedule.specs.Machinery.Places.{placeOf, askingAt, pointingAt, fetchingAt, spriteIn, isCalm};
 ghost use Rattle.schedule.specs.Machinery.Stretches.{isLater, isPast, isEarly, isBetween, isStill, beforeGraphics};
+ghost use Rattle.schedule.specs.Machinery.Reads.{seen, spriteReason, graphicsReason, litReasons, pointerReasons, dataReasons, gapReasons};
 
 // ---- the kinds of chip
 
@@ -200,7 +201,101 @@ pub fn before_graphics(cycle: u16) -> bool
     (15 <= cycle) & (cycle <= 54)
 }
 
+// ---- why a cycle reads
+
+// The reasons of a cycle's reads, in order, 0 for none.
+pub struct Reasons {
+    pub first: u8,
+    pub second: u8,
+}
+
+pub const POINTER: u8 = 1;
+
+pub const SPRITE: u8 = 2;
+
+pub const MATRIX: u8 = 3;
+
+pub const GRAPHICS: u8 = 4;
+
+pub const IDLE: u8 = 5;
+
+// A reason where there is a read.
+fn when(go: bool, reason: u8) -> u8
+    ensures { λ r. ⌜ r ≡ seen go reason ⌝ }
+{
+    if go {
+        return reason;
+    }
+    0
+}
+
+// A sprite's byte without DMA is an idle read.
+fn sprite_reason(on: bool) -> u8
+    ensures { λ r. ⌜ r ≡ spriteReason on ⌝ }
+{
+    if on {
+        return SPRITE;
+    }
+    IDLE
+}
+
+fn graphics_reason(moves: bool) -> u8
+    ensures { λ r. ⌜ r ≡ graphicsReason moves ⌝ }
+{
+    if moves {
+        return GRAPHICS;
+    }
+    IDLE
+}
+
+// Of a cycle with a graphics access.
+pub fn reasons_lit(moves: bool, fills: bool) -> Reasons
+    ensures { λ r. ⌜ r ≡ litReasons moves fills ⌝ }
+{
+    Reasons {
+        first: graphics_reason(moves),
+        second: when(fills, MATRIX),
+    }
+}
+
+// Of a pointer slot: `first` is sprite 0's, whose byte 2 needs the bus.
+pub fn reasons_pointer(first: bool, on: bool, low: bool) -> Reasons
+    ensures { λ r. ⌜ r ≡ pointerReasons first on low ⌝ }
+{
+    Reasons {
+        first: POINTER,
+        second: when((on & !first) | low, sprite_reason(on)),
+    }
+}
+
+// Of a data slot.
+pub fn reasons_data(on: bool, low: bool) -> Reasons
+    ensures { λ r. ⌜ r ≡ dataReasons on low ⌝ }
+{
+    let byte = sprite_reason(on);
+    Reasons {
+        first: byte,
+        second: when(on | low, byte),
+    }
+}
+
+// Of a cycle that has neither a slot nor a graphics access, nor one of the matrix.
+pub fn reasons_gap(cycle: u16) -> Reasons
+    ensures { λ r. ⌜ r ≡ gapReasons cycle ⌝ }
+{
+    Reasons {
+        first: when(!refresh(cycle), IDLE),
+        second: 0,
+    }
+}
+
 // ---- each event of the diagram, as a test of the cycle
+
+pub fn refresh(cycle: u16) -> bool
+    ensures { λ r. ⌜ r ≡ happens refresh cycle ⌝ }
+{
+    (11 <= cycle) & (cycle <= 15)
+}
 
 pub fn line_begins(cycle: u16) -> bool
     ensures { λ r. ⌜ r ≡ happens lineBegins cycle ⌝ }

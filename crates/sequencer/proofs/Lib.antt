@@ -1,4 +1,5 @@
 pub mod Clock
+pub mod Ordered
 pub mod Glue
 pub mod Kept
 pub mod Runs
@@ -6,3 +7,4 @@ pub mod Staged
 pub mod Skip
 pub mod Sides
 pub mod Numbers
+pub mod Reported

@@ -2,6 +2,7 @@
 use Prim.Native.Nat.{ℕ, zero, suc, _+_, _-_, _<_, _≤_}
 use mathlib.Core.Path.{_≡_, refl, sym, _∙_}
 use mathlib.Core.Bool.{true, false}
+use mathlib.Core.List.{[]}
 use native.Mathlib.Omega.{arith}
 use native.Mathlib.Numerals.{add-one}
 use native.Mathlib.Nat.{zero-add, suc-add}
@@ -11,12 +12,14 @@ use borrow.Author.Tests.{ne-eqb}
 use Rattle.memory.proofs.Lent.{host-lent, host-colour}
 use Rattle.memory.specs.Lent.{Host, lentRefusal}
 use Rattle.registers.specs.declared.Registers.{Registers}
+use Rattle.access.specs.declared.Reads.{Reads}
+use Rattle.access.specs.Reads.{told}
 use Rattle.chip.specs.declared.Chip.{Chip}
 use Rattle.chip.specs.declared.Answer.{Answer}
 use Rattle.chip.specs.Accept.{accepted, stateRefusal}
-use Rattle.chip.specs.Chip.{answer}
+use Rattle.chip.specs.Chip.{answer, reading}
 use Rattle.sequencer.specs.World.{World, chipOf}
-use Rattle.sequencer.specs.Tick.{tickable, tickWorld, tickRefusal, ticked, ticksFrom}
+use Rattle.sequencer.specs.Tick.{tickable, tickWorld, tickReads, tickRefusal, ticked, ticksFrom}
 use Rattle.sequencer.specs.Machinery.Parts.{Ready, Held}
 use Rattle.chip.proofs.Fine.{accepted-taken}
 use Rattle.chip.proofs.Accepted.{accepted-clock, accepted-forced, clock-fine-range}
@@ -50,7 +53,7 @@ ended h c t i n e r l =
     let q : (n - suc i) + suc i ≡ n = omega arith in
     sym (rw q at (stays h c t (suc i) e r (n - suc i)))
 
-next : (h : Host) (c d : Chip) (i : ℕ) → ticksFrom h i c ≡ answer 0 d → ticksFrom h (suc i) c ≡ ticked h d
+pub next : (h : Host) (c d : Chip) {r : Reads} (i : ℕ) → ticksFrom h i c ≡ reading d r → ticksFrom h (suc i) c ≡ ticked h d
 unfolding ticksFrom
 next h c d i e = rw e
 
@@ -81,16 +84,16 @@ module _ (h : Host) (c : Chip) where
     state-first {r} l e nz nn = refused-first h c r n (rw (l, ← e, ne-eqb r 0 nz)) nz nn
 
 module _ (h : Host) (g : Registers) (w₀ : World) (n : ℕ) where
-  pub record Going (w : World) (i : ℕ) : Type 0 where
+  pub record Going (w : World) (i : ℕ) (r : Reads) : Type 0 where
     pub within : i ≤ n
-    pub state : ticksFrom h i (chipOf g w₀) ≡ answer 0 (chipOf g w)
+    pub state : ticksFrom h i (chipOf g w₀) ≡ reading (chipOf g w) r
     pub held : Held h g w
 
-  pub begun : Held h g w₀ → Going w₀ 0
-  begun held = record { within = omega arith; state = none h (chipOf g w₀); held = held }
+  pub begun : {r : Reads} → r ≡ told [] → Held h g w₀ → Going w₀ 0 r
+  begun {r} e held = record { within = omega arith; state = rw e (none h (chipOf g w₀)); held = held }
 
   -- what a tick of a held state answers
-  taken : (w : World) → Held h g w → tickable (w .side .bus .clock) ≡ true → ticked h (chipOf g w) ≡ answer 0 (chipOf g (tickWorld h g w))
+  taken : (w : World) → Held h g w → tickable (w .side .bus .clock) ≡ true → ticked h (chipOf g w) ≡ reading (chipOf g (tickWorld h g w)) (told (tickReads h g w))
   unfolding ticked tickRefusal
   taken w held t = rw (held .free, accepted-taken (chipOf g w) (held .fine), t)
 
@@ -98,12 +101,12 @@ module _ (h : Host) (g : Registers) (w₀ : World) (n : ℕ) where
   unfolding ticked tickRefusal
   late w held t = rw (held .free, accepted-taken (chipOf g w) (held .fine), t)
 
-  pub on : {w v : World} {i : ℕ} → Going w i → i < n → tickable (w .side .bus .clock) ≡ true → v ≡ tickWorld h g w
+  pub on : {w v : World} {i : ℕ} {r r' : Reads} → Going w i r → i < n → tickable (w .side .bus .clock) ≡ true → v ≡ tickWorld h g w → r' ≡ told (tickReads h g w)
       → length (v .matrix) ≡ length (w .matrix) → length (v .pointers) ≡ length (w .pointers) → length (v .bytes) ≡ length (w .bytes) → length (v .words) ≡ length (w .words)
-      → Going v (i + 1)
-  on {w} {v} {i} r l t e a b c d = record {
+      → Going v (i + 1) r'
+  on {w} {v} {i} r l t e f a b c d = record {
     within = omega arith;
-    state = rw (add-one, e) (next h (chipOf g w₀) (chipOf g w) i (r .state) ∙ taken w (r .held) t);
+    state = rw (add-one, e, f) (next h (chipOf g w₀) (chipOf g w) i (r .state) ∙ taken w (r .held) t);
     held = record {
       free = r .held .free;
       forty = a ∙ r .held .forty;
@@ -114,9 +117,9 @@ module _ (h : Host) (g : Registers) (w₀ : World) (n : ℕ) where
     };
   }
 
-  pub no-more : {w : World} {i : ℕ} → Going w i → i < n → tickable (w .side .bus .clock) ≡ false → answer 4 (chipOf g w) ≡ ticksFrom h n (chipOf g w₀)
+  pub no-more : {w : World} {i : ℕ} {r : Reads} → Going w i r → i < n → tickable (w .side .bus .clock) ≡ false → answer 4 (chipOf g w) ≡ ticksFrom h n (chipOf g w₀)
   no-more {w} {i} r l t =
       ended h (chipOf g w₀) (answer 4 (chipOf g w)) i n (next h (chipOf g w₀) (chipOf g w) i (r .state) ∙ late w (r .held) t) refl l
 
-  pub all-done : {w : World} {i : ℕ} → Going w i → n ≤ i → answer 0 (chipOf g w) ≡ ticksFrom h n (chipOf g w₀)
+  pub all-done : {w : World} {i : ℕ} {r : Reads} → Going w i r → n ≤ i → reading (chipOf g w) r ≡ ticksFrom h n (chipOf g w₀)
   all-done {w} {i} r l = let q : i ≡ n = omega (arith, r .within) in rw (← q) (sym (r .state))

@@ -6,9 +6,11 @@ use Rattle.side.specs.declared.Side.{Side}
 use Rattle.side.specs.Turn.{turned}
 use Rattle.chip.specs.declared.Chip.{Chip}
 use Rattle.registers.specs.Control.{timed}
-use Rattle.chip.specs.Chip.{answer}
+use Rattle.access.specs.Reads.{told}
+use Rattle.chip.specs.Chip.{answer, reading}
 use Rattle.chip.specs.Accept.{accepted}
-use Rattle.sequencer.specs.Tick.{tickable, tickWorld, tickOf, tickRefusal, ticked}
+use Rattle.sequencer.specs.World.{worldOf}
+use Rattle.sequencer.specs.Tick.{tickable, tickWorld, tickReads, tickOf, tickRefusal, ticked}
 use Rattle.schedule.specs.Kind.{known}
 use Rattle.chip.proofs.Fine.{accepted-taken, unaccepted-3, unknown-12}
 use Rattle.chip.proofs.Level.{Level, LevelAnswers}
@@ -27,7 +29,7 @@ unfolding ticked tickRefusal
 tick-unknown h c l k = simp (l, unknown-12 c k)
 
 -- the tick, where its state is accepted and its memory legal: taken, or refused for its clock
-pub tick-taken : (h : Host) (c : Chip) → lentRefusal h ≡ 0 → accepted c ≡ true → tickable (c .side .bus .clock) ≡ true → ticked h c ≡ answer 0 (tickOf h c)
+pub tick-taken : (h : Host) (c : Chip) → lentRefusal h ≡ 0 → accepted c ≡ true → tickable (c .side .bus .clock) ≡ true → ticked h c ≡ reading (tickOf h c) (told (tickReads h (c .regs) (worldOf c)))
 unfolding ticked tickRefusal
 tick-taken h c l e t = simp (l, accepted-taken c e, t)
 

@@ -2,6 +2,7 @@
 use Prim.Native.Nat.{ℕ, zero, suc, _+_, _-_, _<_, _≤_}
 use mathlib.Core.Path.{_≡_, refl, sym, _∙_, ap}
 use mathlib.Core.Bool.{Bool, true, false, not, _&&_, _||_, cond}
+use mathlib.Core.List.{List}
 use native.Mathlib.Omega.{arith}
 use lib.Dec.{eqb, leb, ltb}
 use lib.IntN.{ℤ, pos, negsuc}
@@ -25,14 +26,18 @@ use Rattle.side.specs.Machinery.Leap.{onlyCounts, leapt}
 use Rattle.side.proofs.Counts.{Counts, counts, quiet, quiet-turn, counts-later, counts-on, quiet-later, leap-none}
 use Rattle.rows.proofs.Laws.{limit-small}
 use Rattle.side.proofs.Kept.{side-cycle}
+use Rattle.access.specs.declared.Read.{Read}
+use Rattle.access.specs.declared.Reads.{Reads}
+use Rattle.access.specs.Reads.{told}
 use Rattle.picture.specs.declared.Pen.{Pen}
 use Rattle.picture.specs.Pen.{penAfter}
+use Rattle.picture.specs.Reads.{readsBy}
 use Rattle.picture.proofs.Laws.{matrix-length, slotted-pointers, slotted-bytes, slotted-words, no-slot, changing-over}
-use Rattle.picture.proofs.Plain.{Plain, plain-matrix, pen-again}
+use Rattle.picture.proofs.Plain.{Plain, plain-matrix, pen-again, reads-again}
 use Rattle.sequencer.specs.declared.Core.{Core}
 use Rattle.sequencer.specs.World.{World, chipOf}
 use Rattle.sequencer.specs.Machinery.Parts.{Ready, Held, Roomy}
-use Rattle.sequencer.specs.Tick.{tickWorld}
+use Rattle.sequencer.specs.Tick.{tickWorld, tickReads}
 use Rattle.sequencer.specs.Machinery.Skip.{skippableBy, skipped, worldLater}
 use Rattle.chip.proofs.Fine.{accepted-fine}
 use Rattle.sequencer.proofs.Runs.{ready}
@@ -111,6 +116,29 @@ module _ (h : Host) (g : Registers) where
       (pen-again (w .matrix) (later .orders) (q .orders) (later .side .bus .clock) (q .side .bus .clock) (w .pen) (modeNumber (g .ctrl1) (g .ctrl2)) (g .ptrs) (h .ram) (h .rom) (h .bank) (plain-orders last) (plain-orders e) refl (e .changing)) in
       rw (← quiet-world w e)
       (sym (quiet-world (worldLater k ticked) first) ∙ turns ∙ pens ∙ quiet-world (worldLater (suc k) w) last)
+
+  -- and the tick that is done reads alike
+  abbrev read-by : World → Pen → Turned → List Read
+  read-by w p q = readsBy (kindOf (w .side .beam .kind)) (w .matrix) (w .pointers) (q .orders) (q .side .bus .clock) p (modeNumber (g .ctrl1) (g .ctrl2)) (g .ptrs) (h .ram) (h .rom) (h .bank)
+
+  quiet-reads : (w : World) → Able g w → read-by w (w .pen) (quiet (timed g) (w .side)) ≡ tickReads h g w
+  unfolding tickReads
+  quiet-reads w e = rw (← quiet-turn (timed g) (w .side) (e .counts))
+
+  step-reads : (w : World) (k : ℕ) → Able g w → inRange (w .side .bus .clock) → w .side .beam .cycle + suc k ≤ 53
+      → tickReads h g (worldLater k (tickWorld h g w)) ≡ tickReads h g (worldLater (suc k) w)
+  step-reads w k e r l =
+      let q = quiet (timed g) (w .side) in
+      let later = quiet (timed g) (leapt (suc k) (w .side)) in
+      let ticked = quietWorld w in
+      let near : q .side .beam .cycle + k ≤ 53 = rw (next-cycle e) (omega (arith, l)) in
+      let first = able-later k (able-quiet e (omega (arith, l))) near in
+      let last = able-later (suc k) e l in
+      let turns : read-by w (ticked .pen) (quiet (timed g) (leapt k (q .side))) ≡ read-by w (ticked .pen) later = ap (read-by w (ticked .pen)) (quiet-later (timed g) (w .side) k (e .counts) r) in
+      let pens : read-by w (ticked .pen) later ≡ read-by w (w .pen) later =
+      reads-again (kindOf (w .side .beam .kind)) (w .matrix) (w .pointers) (later .orders) (q .orders) (later .side .bus .clock) (q .side .bus .clock) (w .pen) (modeNumber (g .ctrl1) (g .ctrl2)) (g .ptrs) (h .ram) (h .rom) (h .bank) (plain-orders last) (plain-orders e) refl (e .changing) in
+      rw (← quiet-world w e)
+      (sym (quiet-reads (worldLater k ticked) first) ∙ turns ∙ pens ∙ quiet-reads (worldLater (suc k) w) last)
 
   module _ (w : World) where
     tick-matrix : length (tickWorld h g w .matrix) ≡ length (w .matrix)
@@ -193,7 +221,7 @@ room-later k m (pos n) l r = rw (clock-on k n) (omega arith)
 room-later k m (negsuc n) l r = absurd r
 
 module _ (h : Host) (g : Registers) (goes : ℕ → Bool) (w₀ : World) (n : ℕ) where
-  pub ready-later : {w : World} {i : ℕ} (k : ℕ) → Parting h g goes w₀ n w i → i + k < n → Ready h (worldLater k w)
+  pub ready-later : {w : World} {i : ℕ} {r : Reads} (k : ℕ) → Parting h g goes w₀ n w i r → i + k < n → Ready h (worldLater k w)
   ready-later {w} {i} k p l =
       let r = ready (p .going .held) (tickable-now h g goes w₀ n p (omega arith)) in
       record {
@@ -208,24 +236,25 @@ module _ (h : Host) (g : Registers) (goes : ℕ → Bool) (w₀ : World) (n : �
       }
 
   -- k counted and one done, on from a state of the run
-  pub further-by : (k : ℕ) {w v : World} {i : ℕ} → Parting h g goes w₀ n w i → i + k < n
+  pub further-by : (k : ℕ) {w v : World} {i : ℕ} {r r' : Reads} → Parting h g goes w₀ n w i r → i + k < n
       → (0 < k → Able g w × (w .side .beam .cycle + k ≤ 53))
-      → v ≡ tickWorld h g (worldLater k w)
+      → v ≡ tickWorld h g (worldLater k w) → r' ≡ told (tickReads h g (worldLater k w))
       → length (v .matrix) ≡ length (w .matrix) → length (v .pointers) ≡ length (w .pointers) → length (v .bytes) ≡ length (w .bytes) → length (v .words) ≡ length (w .words)
-      → Parting h g goes w₀ n v (i + 1 + k)
-  further-by zero {w} {v} {i} p l f e a b c d =
+      → Parting h g goes w₀ n v (i + 1 + k) r'
+  further-by zero {w} {v} {i} p l f e s a b c d =
       let q : i + 1 + 0 ≡ i + 1 = omega arith in
-      rw q (further h g goes w₀ n p (omega arith) (e ∙ ap (tickWorld h g) (later-none h g (p .going .held))) a b c d)
-  further-by (suc k) {w} {v} {i} p l f e a b c d =
+      let none = later-none h g (p .going .held) in
+      rw q (further h g goes w₀ n p (omega arith) (e ∙ ap (tickWorld h g) none) (s ∙ ap (λ (u : World). told (tickReads h g u)) none) a b c d)
+  further-by (suc k) {w} {v} {i} p l f e s a b c d =
       let able' = f (omega arith) .0 in
       let high : w .side .beam .cycle + suc k ≤ 53 = f (omega arith) .1 in
       let x = tickWorld h g w in
-      let on = further h g goes w₀ n p (omega arith) refl (tick-matrix h g w) (tick-pointers h g w) (tick-bytes h g w) (tick-words h g w) in
+      let on = further h g goes w₀ n p (omega arith) refl refl (tick-matrix h g w) (tick-pointers h g w) (tick-bytes h g w) (tick-words h g w) in
       let range = accepted-fine (chipOf g w) (p .going .held .fine) .side .clock in
       let next : x .side .beam .cycle ≡ w .side .beam .cycle + 1 = tick-cycle h g w ∙ next-cycle h g able' in
       let q : i + 1 + suc k ≡ i + 1 + 1 + k = omega arith in
       rw q
-      (further-by k on (omega arith) (λ z. (able-on h g able' (omega arith), rw next (omega arith))) (e ∙ sym (step h g w k able' range high))
+      (further-by k on (omega arith) (λ z. (able-on h g able' (omega arith), rw next (omega arith))) (e ∙ sym (step h g w k able' range high)) (s ∙ ap told (sym (step-reads h g w k able' range high)))
       (a ∙ sym (tick-matrix h g w)) (b ∙ sym (tick-pointers h g w)) (c ∙ sym (tick-bytes h g w)) (d ∙ sym (tick-words h g w)))
 
 -- what the code worked out of this

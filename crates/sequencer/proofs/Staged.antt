@@ -2,6 +2,7 @@
 use Prim.Native.Nat.{ℕ, zero, suc, _+_, _-_, _<_, _≤_}
 use mathlib.Core.Path.{_≡_, refl, sym, _∙_, ap}
 use mathlib.Core.Bool.{Bool, true, false, true≢false}
+use mathlib.Core.List.{[]}
 use native.Mathlib.Omega.{arith}
 use native.Mathlib.Decide.{decLt}
 use native.Mathlib.Nat.{zero-add, suc-add}
@@ -12,15 +13,17 @@ use borrow.Author.Tests.{le-leb, ltb-false}
 use Rattle.laws.specs.Clock.{lastTickable, canTick}
 use Rattle.memory.specs.Lent.{Host}
 use Rattle.registers.specs.declared.Registers.{Registers}
+use Rattle.access.specs.declared.Reads.{Reads}
+use Rattle.access.specs.Reads.{told}
 use Rattle.side.proofs.Kept.{side-clock}
 use Rattle.arbitration.specs.Bus.{clockOn}
 use Rattle.arbitration.proofs.Kept.{clock-on}
 use Rattle.chip.specs.declared.Chip.{Chip}
-use Rattle.chip.specs.Chip.{answer}
+use Rattle.chip.specs.Chip.{reading}
 use Rattle.sequencer.specs.World.{World, chipOf}
-use Rattle.sequencer.specs.Tick.{tickable, tickWorld, ticksFrom}
+use Rattle.sequencer.specs.Tick.{tickable, tickWorld, tickReads, ticksFrom}
 use Rattle.sequencer.specs.Machinery.Parts.{Held, Roomy, Part}
-use Rattle.sequencer.proofs.Runs.{Going, none, begun, on}
+use Rattle.sequencer.proofs.Runs.{Going, next, one-tick, begun, on}
 
 -- room for one more tick, and what is left after it
 pub room-now : (k : ℕ) (z : ℤ) → 0 < k → Roomy k z → tickable z ≡ true
@@ -47,41 +50,45 @@ tick-clock : (h : Host) (g : Registers) (w : World) → tickWorld h g w .side .b
 unfolding tickWorld
 tick-clock h g w = side-clock _ (w .side)
 
--- ticks after ticks
+-- ticks after ticks: the reads are the last one's, so there is one
 again : (h : Host) (c d : Chip) (a b : ℕ) → ticksFrom h a c ≡ ticksFrom h b d → ticksFrom h (suc a) c ≡ ticksFrom h (suc b) d
 unfolding ticksFrom
 again h c d a b e = rw e
 
-after : (h : Host) (c d : Chip) (i : ℕ) → ticksFrom h i c ≡ answer 0 d → (k : ℕ) → ticksFrom h (k + i) c ≡ ticksFrom h k d
-after h c d i e zero = rw zero-add (e ∙ sym (none h d))
-after h c d i e (suc k) = rw suc-add (again h c d (k + i) k (after h c d i e k))
+after : (h : Host) (c d : Chip) {r : Reads} (i : ℕ) → ticksFrom h i c ≡ reading d r → (k : ℕ) → ticksFrom h (suc k + i) c ≡ ticksFrom h (suc k) d
+after h c d i e zero = rw (suc-add, zero-add) (next h c d i e ∙ sym (one-tick h d))
+after h c d i e (suc k) = rw suc-add (again h c d (suc k + i) (suc k) (after h c d i e k))
+
+some-after : (h : Host) (c d : Chip) {r : Reads} (i k : ℕ) → ticksFrom h i c ≡ reading d r → 0 < k → ticksFrom h (k + i) c ≡ ticksFrom h k d
+some-after h c d i zero e l = absurd (omega arith)
+some-after h c d i (suc k) e l = after h c d i e k
 
 module _ (h : Host) (g : Registers) (goes : ℕ → Bool) (w₀ : World) (n : ℕ) where
-  pub record Parting (w : World) (i : ℕ) : Type 0 where
-    pub going : Going h g w₀ n w i
+  pub record Parting (w : World) (i : ℕ) (r : Reads) : Type 0 where
+    pub going : Going h g w₀ n w i r
     pub room : Roomy (n - i) (w .side .bus .clock)
     pub first : i ≡ 0 → w .side .beam .cycle ≡ w₀ .side .beam .cycle
 
-  pub started : Held h g w₀ → Roomy n (w₀ .side .bus .clock) → Parting w₀ 0
-  started held room =
+  pub started : {r : Reads} → r ≡ told [] → Held h g w₀ → Roomy n (w₀ .side .bus .clock) → Parting w₀ 0 r
+  started e held room =
       let q : n - 0 ≡ n = omega arith in
-      record { going = begun h g w₀ n held; room = rw q room; first = λ e. refl }
+      record { going = begun h g w₀ n e held; room = rw q room; first = λ e. refl }
 
-  pub tickable-now : {w : World} {i : ℕ} → Parting w i → i < n → tickable (w .side .bus .clock) ≡ true
+  pub tickable-now : {w : World} {i : ℕ} {r : Reads} → Parting w i r → i < n → tickable (w .side .bus .clock) ≡ true
   tickable-now {w} {i} p l = room-now (n - i) (w .side .bus .clock) (omega arith) (p .room)
 
-  pub further : {w v : World} {i : ℕ} → Parting w i → i < n → v ≡ tickWorld h g w
+  pub further : {w v : World} {i : ℕ} {r r' : Reads} → Parting w i r → i < n → v ≡ tickWorld h g w → r' ≡ told (tickReads h g w)
       → length (v .matrix) ≡ length (w .matrix) → length (v .pointers) ≡ length (w .pointers) → length (v .bytes) ≡ length (w .bytes) → length (v .words) ≡ length (w .words)
-      → Parting v (i + 1)
-  further {w} {v} {i} p l e a b c d = record {
-    going = on h g w₀ n (p .going) l (tickable-now p l) e a b c d;
+      → Parting v (i + 1) r'
+  further {w} {v} {i} p l e f a b c d = record {
+    going = on h g w₀ n (p .going) l (tickable-now p l) e f a b c d;
     room =
         let q : n - (i + 1) ≡ (n - i) - 1 = omega arith in
         rw (q, e, tick-clock h g w) (room-next (n - i) (w .side .bus .clock) (omega arith) (p .room));
     first = λ z. absurd (omega arith);
   }
 
-  pub ended-at : {w : World} {i : ℕ} → Parting w i → n ≤ i → Part h g n (goes (w₀ .side .beam .cycle)) w₀ i w
+  pub ended-at : {w : World} {i : ℕ} {r : Reads} → Parting w i r → n ≤ i → Part h g n (goes (w₀ .side .beam .cycle)) w₀ i w r
   ended-at {w} {i} p l = record {
     within = p .going .within;
     state = p .going .state;
@@ -89,7 +96,7 @@ module _ (h : Host) (g : Registers) (goes : ℕ → Bool) (w₀ : World) (n : �
     moved = λ t z. omega arith;
   }
 
-  pub stopped-at : {w : World} {i : ℕ} → Parting w i → goes (w .side .beam .cycle) ≡ false → Part h g n (goes (w₀ .side .beam .cycle)) w₀ i w
+  pub stopped-at : {w : World} {i : ℕ} {r : Reads} → Parting w i r → goes (w .side .beam .cycle) ≡ false → Part h g n (goes (w₀ .side .beam .cycle)) w₀ i w r
   stopped-at {w} {i} p s = record {
     within = p .going .within;
     state = p .going .state;
@@ -102,11 +109,11 @@ module _ (h : Host) (g : Registers) (goes : ℕ → Bool) (w₀ : World) (n : �
       some t (no q) = let k : i ≡ 0 = omega arith in absurd (true≢false (sym t ∙ ap goes (sym (p .first k)) ∙ s))
 
 -- a run that a part carries on
-pub carried : {h : Host} {g : Registers} {w₀ w v : World} {n i m k : ℕ} → Going h g w₀ n w i → Part h g m true w k v → m ≤ n - i → i < n → Going h g w₀ n v (i + k)
-carried {h} {g} {w₀} {w} {v} {n} {i} {m} {k} r p f l =
+pub carried : {h : Host} {g : Registers} {w₀ w v : World} {n i m k : ℕ} {r r' : Reads} → Going h g w₀ n w i r → Part h g m true w k v r' → 0 < m → m ≤ n - i → i < n → Going h g w₀ n v (i + k) r'
+carried {h} {g} {w₀} {w} {v} {n} {i} {m} {k} r p some f l =
     let sum : k + i ≡ i + k = omega arith in
     record {
       within = omega (arith, p .within);
-      state = rw sum at (after h (chipOf g w₀) (chipOf g w) i (r .state) k ∙ p .state);
+      state = rw sum at (some-after h (chipOf g w₀) (chipOf g w) i k (r .state) (p .moved refl some) ∙ p .state);
       held = p .held;
     }

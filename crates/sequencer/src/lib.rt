@@ -8,11 +8,13 @@ ghost use lib.IntN.{ℤ};
 ghost use Rattle.laws.specs.Clock.{inRange, canTick};
 ghost use Rattle.memory.specs.Lent.{host, lentRefusal};
 ghost use Rattle.schedule.specs.Machinery.Stretches.{beforeGraphics};
-ghost use Rattle.chip.specs.Chip.{chip, answer};
+ghost use Rattle.access.specs.Reads.{told};
+ghost use Rattle.access.specs.Machinery.Noted.{readsIn};
+ghost use Rattle.chip.specs.Chip.{chip};
 ghost use Rattle.chip.specs.Accept.{accepted};
 ghost use Rattle.sequencer.specs.World.{world, chipOf};
-ghost use Rattle.sequencer.specs.Tick.{tickable, tickWorld, tickRefusal, ticked, ticksFrom};
-ghost use Rattle.sequencer.specs.Machinery.Parts.{Ready, Held, Roomy, Part};
+ghost use Rattle.sequencer.specs.Tick.{tickable, tickWorld, tickReads, tickRefusal, ticked, ticksFrom};
+ghost use Rattle.sequencer.specs.Machinery.Parts.{Ready, Held, Roomy, Part, answered};
 ghost use Rattle.sequencer.specs.Machinery.Skip.{skippableBy, skipped, coreLater};
 use chip::Answer;
 use chip::Chip;
@@ -27,15 +29,23 @@ pub struct Core {
     pub pen: Pen,
 }
 
-// How many ticks a part of a run did, and what it left.
+// What a tick leaves, and its reads in one number.
+pub struct Stepped {
+    pub core: Core,
+    pub noted: u64,
+}
+
+// How many ticks a part of a run did, what it left, and what its last tick read.
 pub struct Gone {
     pub done: u64,
     pub core: Core,
+    pub noted: u64,
 }
 
 pub struct Ran {
     pub refused: u8,
     pub core: Core,
+    pub noted: u64,
 }
 
 // One tick over the lent arrays, in a cycle with a graphics access.
@@ -50,9 +60,9 @@ fn inner_lit(
     rom: &[u8],
     colour: &[u8],
     bank: u8,
-) -> Core
+) -> Stepped
     requires { ⌜ Ready (host (now ram) (now rom) (now colour) bank) (world core (now matrix) (now pointers) (now bytes) (now words)) ⌝ ∗ ⌜ beforeGraphics (core .side .beam .cycle) ≡ Bool.true ⌝ }
-    ensures { λ r. ⌜ world r (now (matrix .exit)) (now (pointers .exit)) (now (bytes .exit)) (now (words .exit)) ≡ tickWorld (host (now (ram .entry)) (now (rom .entry)) (now (colour .entry)) bank) regs (world core (now (matrix .entry)) (now (pointers .entry)) (now (bytes .entry)) (now (words .entry))) ⌝ }
+    ensures { λ r. ⌜ world (r .core) (now (matrix .exit)) (now (pointers .exit)) (now (bytes .exit)) (now (words .exit)) ≡ tickWorld (host (now (ram .entry)) (now (rom .entry)) (now (colour .entry)) bank) regs (world core (now (matrix .entry)) (now (pointers .entry)) (now (bytes .entry)) (now (words .entry))) ⌝ ∗ ⌜ readsIn (r .noted) ≡ told (tickReads (host (now (ram .entry)) (now (rom .entry)) (now (colour .entry)) bank) regs (world core (now (matrix .entry)) (now (pointers .entry)) (now (bytes .entry)) (now (words .entry)))) ⌝ }
 {
     let side0 = core.side;
     let pen0 = core.pen;
@@ -62,7 +72,7 @@ fn inner_lit(
     let side = turned.side;
     let bus = side.bus;
     let mode = registers::mode(regs.ctrl1, regs.ctrl2);
-    let pen = picture::draw(
+    let drawn = picture::draw(
         pen0,
         orders,
         bus.clock,
@@ -74,9 +84,16 @@ fn inner_lit(
         colour,
         bank,
     );
-    Core {
+    let pen = drawn.pen;
+    let spots = drawn.spots;
+    let noted = picture::noted_lit(orders, spots);
+    let next = Core {
         side: side,
         pen: pen,
+    };
+    Stepped {
+        core: next,
+        noted: noted,
     }
 }
 
@@ -92,9 +109,9 @@ fn inner_dark(
     rom: &[u8],
     colour: &[u8],
     bank: u8,
-) -> Core
+) -> Stepped
     requires { ⌜ Ready (host (now ram) (now rom) (now colour) bank) (world core (now matrix) (now pointers) (now bytes) (now words)) ⌝ ∗ ⌜ beforeGraphics (core .side .beam .cycle) ≡ Bool.false ⌝ }
-    ensures { λ r. ⌜ world r (now (matrix .exit)) (now (pointers .exit)) (now (bytes .exit)) (now (words .exit)) ≡ tickWorld (host (now (ram .entry)) (now (rom .entry)) (now (colour .entry)) bank) regs (world core (now (matrix .entry)) (now (pointers .entry)) (now (bytes .entry)) (now (words .entry))) ⌝ }
+    ensures { λ r. ⌜ world (r .core) (now (matrix .exit)) (now (pointers .exit)) (now (bytes .exit)) (now (words .exit)) ≡ tickWorld (host (now (ram .entry)) (now (rom .entry)) (now (colour .entry)) bank) regs (world core (now (matrix .entry)) (now (pointers .entry)) (now (bytes .entry)) (now (words .entry))) ⌝ ∗ ⌜ readsIn (r .noted) ≡ told (tickReads (host (now (ram .entry)) (now (rom .entry)) (now (colour .entry)) bank) regs (world core (now (matrix .entry)) (now (pointers .entry)) (now (bytes .entry)) (now (words .entry)))) ⌝ }
 {
     let side0 = core.side;
     let pen0 = core.pen;
@@ -103,9 +120,9 @@ fn inner_dark(
     let orders = turned.orders;
     let side = turned.side;
     let bus = side.bus;
-    picture::slot(pointers, bytes, words, orders, regs.ptrs, ram, rom, bank);
+    let slot = picture::slot(pointers, bytes, words, orders, regs.ptrs, ram, rom, bank);
     let mode = registers::mode(regs.ctrl1, regs.ctrl2);
-    let pen = picture::draw_dark(
+    let drawn = picture::draw_dark(
         pen0,
         orders,
         bus.clock,
@@ -117,9 +134,16 @@ fn inner_dark(
         colour,
         bank,
     );
-    Core {
+    let pen = drawn.pen;
+    let spots = drawn.spots;
+    let noted = picture::noted_dark(orders, slot, spots);
+    let next = Core {
         side: side,
         pen: pen,
+    };
+    Stepped {
+        core: next,
+        noted: noted,
     }
 }
 
@@ -182,21 +206,26 @@ fn lit_run(
     n: u64,
 ) -> Gone
     requires { ⌜ Held (host (now ram) (now rom) (now colour) bank) regs (world core (now matrix) (now pointers) (now bytes) (now words)) ⌝ ∗ ⌜ Roomy n (core .side .bus .clock) ⌝ }
-    ensures { λ r. ⌜ Part (host (now (ram .entry)) (now (rom .entry)) (now (colour .entry)) bank) regs n (beforeGraphics (core .side .beam .cycle)) (world core (now (matrix .entry)) (now (pointers .entry)) (now (bytes .entry)) (now (words .entry))) (r .done) (world (r .core) (now (matrix .exit)) (now (pointers .exit)) (now (bytes .exit)) (now (words .exit))) ⌝ }
+    ensures { λ r. ⌜ Part (host (now (ram .entry)) (now (rom .entry)) (now (colour .entry)) bank) regs n (beforeGraphics (core .side .beam .cycle)) (world core (now (matrix .entry)) (now (pointers .entry)) (now (bytes .entry)) (now (words .entry))) (r .done) (world (r .core) (now (matrix .exit)) (now (pointers .exit)) (now (bytes .exit)) (now (words .exit))) (readsIn (r .noted)) ⌝ }
 {
     let mut now = core;
+    let mut noted = 0u64;
     let mut i = 0u64;
     while i < n {
         let side = now.side;
         let beam = side.beam;
         let lit = schedule::before_graphics(beam.cycle);
         if !lit {
-            return Gone { done: i, core: now };
+            return Gone {
+                done: i,
+                core: now,
+                noted: noted,
+            };
         }
         let able = skippable(now, regs);
         let k = skips(able, beam.cycle, n - i);
         let later = leap(now, k);
-        now = inner_lit(
+        let stepped = inner_lit(
             later,
             regs,
             matrix,
@@ -208,9 +237,15 @@ fn lit_run(
             colour,
             bank,
         );
+        now = stepped.core;
+        noted = stepped.noted;
         i = i + 1 + k as u64;
     }
-    Gone { done: i, core: now }
+    Gone {
+        done: i,
+        core: now,
+        noted: noted,
+    }
 }
 
 // Ticks while none has one.
@@ -228,18 +263,23 @@ fn dark_run(
     n: u64,
 ) -> Gone
     requires { ⌜ Held (host (now ram) (now rom) (now colour) bank) regs (world core (now matrix) (now pointers) (now bytes) (now words)) ⌝ ∗ ⌜ Roomy n (core .side .bus .clock) ⌝ }
-    ensures { λ r. ⌜ Part (host (now (ram .entry)) (now (rom .entry)) (now (colour .entry)) bank) regs n (not (beforeGraphics (core .side .beam .cycle))) (world core (now (matrix .entry)) (now (pointers .entry)) (now (bytes .entry)) (now (words .entry))) (r .done) (world (r .core) (now (matrix .exit)) (now (pointers .exit)) (now (bytes .exit)) (now (words .exit))) ⌝ }
+    ensures { λ r. ⌜ Part (host (now (ram .entry)) (now (rom .entry)) (now (colour .entry)) bank) regs n (not (beforeGraphics (core .side .beam .cycle))) (world core (now (matrix .entry)) (now (pointers .entry)) (now (bytes .entry)) (now (words .entry))) (r .done) (world (r .core) (now (matrix .exit)) (now (pointers .exit)) (now (bytes .exit)) (now (words .exit))) (readsIn (r .noted)) ⌝ }
 {
     let mut now = core;
+    let mut noted = 0u64;
     let mut i = 0u64;
     while i < n {
         let side = now.side;
         let beam = side.beam;
         let lit = schedule::before_graphics(beam.cycle);
         if lit {
-            return Gone { done: i, core: now };
+            return Gone {
+                done: i,
+                core: now,
+                noted: noted,
+            };
         }
-        now = inner_dark(
+        let stepped = inner_dark(
             now,
             regs,
             matrix,
@@ -251,9 +291,15 @@ fn dark_run(
             colour,
             bank,
         );
+        now = stepped.core;
+        noted = stepped.noted;
         i = i + 1;
     }
-    Gone { done: i, core: now }
+    Gone {
+        done: i,
+        core: now,
+        noted: noted,
+    }
 }
 
 // Ticks of one part of a line.
@@ -271,7 +317,7 @@ fn stage(
     n: u64,
 ) -> Gone
     requires { ⌜ Held (host (now ram) (now rom) (now colour) bank) regs (world core (now matrix) (now pointers) (now bytes) (now words)) ⌝ ∗ ⌜ Roomy n (core .side .bus .clock) ⌝ }
-    ensures { λ r. ⌜ Part (host (now (ram .entry)) (now (rom .entry)) (now (colour .entry)) bank) regs n Bool.true (world core (now (matrix .entry)) (now (pointers .entry)) (now (bytes .entry)) (now (words .entry))) (r .done) (world (r .core) (now (matrix .exit)) (now (pointers .exit)) (now (bytes .exit)) (now (words .exit))) ⌝ }
+    ensures { λ r. ⌜ Part (host (now (ram .entry)) (now (rom .entry)) (now (colour .entry)) bank) regs n Bool.true (world core (now (matrix .entry)) (now (pointers .entry)) (now (bytes .entry)) (now (words .entry))) (r .done) (world (r .core) (now (matrix .exit)) (now (pointers .exit)) (now (bytes .exit)) (now (words .exit))) (readsIn (r .noted)) ⌝ }
 {
     let side = core.side;
     let beam = side.beam;
@@ -341,9 +387,10 @@ fn run(
     n: u64,
 ) -> Ran
     requires { ⌜ Held (host (now ram) (now rom) (now colour) bank) regs (world core (now matrix) (now pointers) (now bytes) (now words)) ⌝ }
-    ensures { λ r. ⌜ answer (r .refused) (chipOf regs (world (r .core) (now (matrix .exit)) (now (pointers .exit)) (now (bytes .exit)) (now (words .exit)))) ≡ ticksFrom (host (now (ram .entry)) (now (rom .entry)) (now (colour .entry)) bank) n (chipOf regs (world core (now (matrix .entry)) (now (pointers .entry)) (now (bytes .entry)) (now (words .entry)))) ⌝ }
+    ensures { λ r. ⌜ answered (r .refused) (chipOf regs (world (r .core) (now (matrix .exit)) (now (pointers .exit)) (now (bytes .exit)) (now (words .exit)))) (readsIn (r .noted)) ≡ ticksFrom (host (now (ram .entry)) (now (rom .entry)) (now (colour .entry)) bank) n (chipOf regs (world core (now (matrix .entry)) (now (pointers .entry)) (now (bytes .entry)) (now (words .entry)))) ⌝ }
 {
     let mut now = core;
+    let mut noted = 0u64;
     let mut done = 0u64;
     while done < n {
         let side = now.side;
@@ -353,6 +400,7 @@ fn run(
             return Ran {
                 refused: 4,
                 core: now,
+                noted: 0,
             };
         }
         let most = fitting(n - done, bus.clock);
@@ -370,11 +418,13 @@ fn run(
             most,
         );
         now = gone.core;
+        noted = gone.noted;
         done = done + gone.done;
     }
     Ran {
         refused: 0,
         core: now,
+        noted: noted,
     }
 }
 
@@ -393,7 +443,7 @@ fn run_arrays(
     n: u64,
 ) -> Ran
     requires { ⌜ lentRefusal (host (now ram) (now rom) (now colour) bank) ≡ 0 ⌝ ∗ ⌜ accepted (chipOf regs (world core (now matrix) (now pointers) (now bytes) (now words))) ≡ Bool.true ⌝ }
-    ensures { λ r. ⌜ answer (r .refused) (chipOf regs (world (r .core) (now (matrix .exit)) (now (pointers .exit)) (now (bytes .exit)) (now (words .exit)))) ≡ ticksFrom (host (now (ram .entry)) (now (rom .entry)) (now (colour .entry)) bank) n (chipOf regs (world core (now (matrix .entry)) (now (pointers .entry)) (now (bytes .entry)) (now (words .entry)))) ⌝ }
+    ensures { λ r. ⌜ answered (r .refused) (chipOf regs (world (r .core) (now (matrix .exit)) (now (pointers .exit)) (now (bytes .exit)) (now (words .exit)))) (readsIn (r .noted)) ≡ ticksFrom (host (now (ram .entry)) (now (rom .entry)) (now (colour .entry)) bank) n (chipOf regs (world core (now (matrix .entry)) (now (pointers .entry)) (now (bytes .entry)) (now (words .entry)))) ⌝ }
 {
     run(
         core,
@@ -461,9 +511,11 @@ fn run_parts(
         side: side1,
         picture: picture1,
     };
+    let reads = access::reads_in(ran.noted);
     Answer {
         refused: ran.refused,
         chip: next,
+        reads: reads,
     }
 }
 
@@ -475,6 +527,7 @@ pub fn ticks(chip: Chip, ram: &[u8], rom: &[u8], colour: &[u8], bank: u8, n: u64
         return Answer {
             refused: 0,
             chip: chip,
+            reads: access::no_reads(),
         };
     }
     let lent = memory::lent_refusal(ram, rom, colour, bank);
@@ -482,6 +535,7 @@ pub fn ticks(chip: Chip, ram: &[u8], rom: &[u8], colour: &[u8], bank: u8, n: u64
         return Answer {
             refused: lent,
             chip: chip,
+            reads: access::no_reads(),
         };
     }
     let state = chip::state_refusal(chip);
@@ -489,6 +543,7 @@ pub fn ticks(chip: Chip, ram: &[u8], rom: &[u8], colour: &[u8], bank: u8, n: u64
         return Answer {
             refused: state,
             chip: chip,
+            reads: access::no_reads(),
         };
     }
     let regs = chip.regs;

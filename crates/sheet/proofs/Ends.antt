@@ -2,15 +2,14 @@
 use Prim.Native.Nat.{ℕ, zero, suc, _+_, _≤_, _<_}
 use mathlib.Core.Path.{_≡_, refl, sym, _∙_, ap, subst}
 use mathlib.Core.Bool.{Bool, true, false, cond}
-use mathlib.Core.List.{List, [], _∷_, _++_, append-nil, append-assoc}
+use mathlib.Core.List.{List, [], _++_, append-nil, append-assoc}
 use native.Mathlib.Omega.{arith}
-use native.Mathlib.Numerals.{add-one}
 use lib.Dec.{leb}
-use lib.ListN.{length, take, set, length-set}
-use lib.Seq.{take-suc-set}
+use lib.ListN.{length, take}
 use Rattle.laws.proofs.Choice.{either}
 use Rattle.script.specs.Machinery.Cursor.{startOf}
-use Rattle.line.specs.Text.{Written, pasted}
+use Rattle.line.specs.Text.{Written}
+use Rattle.line.proofs.Copy.{stands}
 use Rattle.sheet.specs.declared.Run.{Run}
 use Rattle.driver.specs.Driver.{Store, begunOf as driveBegun}
 use Rattle.sheet.specs.Sheet.{begunOf, runIn, storeIn}
@@ -107,23 +106,8 @@ full r false b e g = ap (λ (x : Bool). cond x r (emptied r)) b
 
 -- ---- the text in the buffer
 
-pasted-there : (text out : List ℕ) (at : ℕ) → at + length text ≤ length out → take (at + length text) (pasted out at text) ≡ take at out ++ text
-unfolding pasted
-pasted-there [] out at h = let e : at + 0 ≡ at = omega arith in ap (λ (n : ℕ). take n out) e ∙ sym (append-nil (take at out))
-pasted-there (x ∷ text) out at h =
-    let set-out = set out at x in
-    let fits : at + 1 + length text ≤ length set-out = simp length-set (omega arith) in
-    let e : at + length (x ∷ text) ≡ at + 1 + length text = omega arith in
-    ap (λ (n : ℕ). take n (pasted set-out (at + 1) text)) e
-    ∙ pasted-there text set-out (at + 1) fits
-    ∙ ap (λ (l : List ℕ). l ++ text) (ap (λ (n : ℕ). take n set-out) (add-one at) ∙ take-suc-set out at x (omega arith))
-    ∙ append-assoc (take at out) (x ∷ []) text
-
-stands : (out text after : List ℕ) (at : ℕ) → Written out 0 text after at → at ≤ length out → take at after ≡ text
-stands out text after at w h =
-    ap (λ (n : ℕ). take n after) (w .place)
-    ∙ ap (take (0 + length text)) (w .text)
-    ∙ pasted-there text out 0 (omega (arith, w .place))
+begun-stands : (out text after : List ℕ) (at : ℕ) → Written out 0 text after at → at ≤ length out → take at after ≡ text
+begun-stands out text after at w h = stands out text after 0 at w (omega (arith, w .place, h))
 
 -- ---- the blocks of a chart, one after the other
 
@@ -152,7 +136,7 @@ module _ (s : List ℕ) (m : Store) (start : Run) where
       record {
         earlier = before;
         whole =
-            ap (λ (t : List ℕ). (before ++ t) ++ toCome s next-left next) (stands out (b .text) after (next .at) (b .written) h)
+            ap (λ (t : List ℕ). (before ++ t) ++ toCome s next-left next) (begun-stands out (b .text) after (next .at) (b .written) h)
             ∙ append-assoc before (b .text) (toCome s next-left next)
             ∙ ap (λ (l : List ℕ). before ++ l) (b .whole)
             ∙ was .whole;

@@ -1,20 +1,15 @@
 -- A turn from its parts: what the driver made and what was told, by the names of the definitions. Assumes nothing.
 use Prim.Native.Nat.{ℕ, _+_, _≤_}
-use mathlib.Core.Path.{_≡_, refl, sym, _∙_, ap, subst}
-use mathlib.Core.List.{List, []}
-use native.Mathlib.Omega.{arith}
+use mathlib.Core.Path.{_≡_, sym, _∙_, ap, subst}
+use mathlib.Core.List.{List}
 use lib.ListN.{length}
 use Rattle.script.specs.declared.Found.{Found}
 use Rattle.driver.specs.declared.Run.{Run as Drive}
 use Rattle.driver.specs.declared.Made.{Made}
 use Rattle.driver.specs.Driver.{Store, madeOn, storeAt}
-use Rattle.line.specs.Text.{Written, pasted}
+use Rattle.line.specs.Text.{Written}
 use Rattle.sheet.specs.declared.Run.{Run}
 use Rattle.sheet.specs.Sheet.{drivenOf, withText, textOf, saidAt, runAt, saidOn, runOn}
-
-pub nothing : (out : List ℕ) (at : ℕ) → Written out at [] out at
-unfolding pasted
-nothing out at = record { place = omega arith; text = refl }
 
 module _ (m after-m : Store) (b r : Run) (start : Drive) (x : Made) (found : Found) (at : ℕ) (out after : List ℕ) where
   abbrev Turn : Made → Type 0

@@ -5,3 +5,4 @@ pub mod Lent
 pub mod Blocks
 pub mod Ends
 pub mod Retired
+pub mod Drive

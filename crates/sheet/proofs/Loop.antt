@@ -11,11 +11,11 @@ use Rattle.script.specs.declared.Found.{Found}
 use Rattle.script.specs.Machinery.Cursor.{nextOf}
 use Rattle.line.specs.Text.{Written}
 use Rattle.line.proofs.Join.{on}
+use Rattle.line.proofs.Copy.{nothing}
 use Rattle.sheet.specs.declared.Run.{Run}
 use Rattle.driver.specs.Driver.{Store, storeAt}
 use Rattle.sheet.specs.Sheet.{saidOn, runOn, saidIn, runIn, storeIn}
 use Rattle.sheet.specs.Machinery.Fill.{Sheet, sheet, oneTurn, goes, turns, ahead, Turned, Gone, emptied, Filled}
-use Rattle.sheet.proofs.Glue.{nothing}
 use Rattle.sheet.proofs.Less.{turn-less}
 
 pub never : {P : Type 0} → true ≡ false → P

@@ -5,8 +5,7 @@ use mathlib.Core.Bool.{Bool, true, false, cond}
 use mathlib.Core.List.{List, [], _++_, append-nil, append-assoc}
 use native.Mathlib.Omega.{arith}
 use lib.Dec.{leb}
-use lib.ListN.{length, take, drop, length-append}
-use lib.Seq.{take-at, length-take-le}
+use lib.ListN.{length, take}
 use borrow.Author.Tests.{leb-true}
 use Rattle.laws.proofs.Choice.{either, by-test}
 use Rattle.script.specs.declared.Found.{Found}
@@ -16,21 +15,14 @@ use Rattle.driver.specs.declared.Run.{Run}
 use Rattle.driver.specs.Driver.{Store, storeAt, begunOf as driveBegun}
 use Rattle.sheet.specs.Machinery.Fill as fill
 use Rattle.sheet.specs.Chart.{Ends}
+use Rattle.sheet.proofs.Drive.{ahead, falls, some}
 use Rattle.vcd.specs.Text.{declarations, ticksText, dumpText, fresh}
-use Rattle.vcd.proofs.Copy.{pasted-is}
+use Rattle.line.proofs.Copy.{stands}
 use Rattle.vcd.proofs.Short.{declarations-292}
 use Rattle.tape.specs.declared.Tape.{Tape}
 use Rattle.tape.specs.Dump.{Played, played, playedOf, dumpOf}
 use Rattle.tape.specs.Machinery.Tape.{tape, begunOf, roomed, saidOn, tapeOn}
-use Rattle.tape.proofs.Turns.{ahead, is-over, toCome, over-come, falls, on-one, one, some}
-
--- the buffer up to the place after a text
-stands : (out text after : List ℕ) (at next : ℕ) → Written out at text after next → at + length text ≤ length out → take next after ≡ take at out ++ text
-stands out text after at next w h =
-    let long : length (take at out ++ text) ≡ at + length text = length-append (take at out) text ∙ ap (λ (n : ℕ). n + length text) (length-take-le at out (omega arith)) in
-    ap (λ (n : ℕ). take n after) (w .place)
-    ∙ ap (take (at + length text)) (w .text ∙ pasted-is text out at h)
-    ∙ take-at (take at out ++ text) (drop (at + length text) out) (at + length text) long
+use Rattle.tape.proofs.Turns.{is-over, toCome, over-come, on-one, one}
 
 pub begun-at : (kind at : ℕ) (t : Tape) → t ≡ begunOf kind at → t .at ≡ at
 unfolding begunOf

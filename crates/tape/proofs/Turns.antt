@@ -1,9 +1,8 @@
--- Turn after turn: what each adds to the dump, and that enough of them are enough. Assumes nothing.
-use Prim.Native.Nat.{ℕ, zero, suc, _≤_, _<_}
+-- Turn after turn: what each adds to the dump. Assumes nothing.
+use Prim.Native.Nat.{ℕ, zero, suc}
 use mathlib.Core.Path.{_≡_, refl, sym, _∙_, ap, subst}
 use mathlib.Core.Bool.{Bool, true, false, cond}
 use mathlib.Core.List.{List, [], _++_, append-assoc}
-use native.Mathlib.Omega.{arith}
 use lib.Dec.{eqb}
 use Rattle.script.specs.declared.Item.{Item}
 use Rattle.script.specs.declared.Item.the-variants as item
@@ -19,9 +18,6 @@ use Rattle.driver.specs.declared.Event.{Event}
 use Rattle.driver.specs.declared.Event.the-variants as event
 use Rattle.driver.specs.declared.Made.{Made}
 use Rattle.driver.specs.Driver.{Store, hostOf, eventOf, madeBy, madeDoing, madeAt, madeOn, storeAt}
-use Rattle.sheet.specs.Sheet.{withText, runAt, runIn}
-use Rattle.sheet.specs.Machinery.Fill as fill
-use Rattle.sheet.proofs.Less.{turn-less}
 use Rattle.vcd.specs.declared.Record.{Record}
 use Rattle.vcd.specs.declared.Wave.{Wave}
 use Rattle.vcd.specs.Text.{pieceOf, waveAfter, refusalText, ticksText}
@@ -29,10 +25,6 @@ use Rattle.wave.specs.Wave.{recordOf}
 use Rattle.tape.specs.declared.Tape.{Tape}
 use Rattle.tape.specs.Dump.{Played, recordsBy, refusalBy, first, over, played}
 use Rattle.tape.specs.Machinery.Tape.{textBy, waveBy, saidOn, tapeOn}
-
--- the bytes that a run still has to read, and one; none where it is over
-abbrev pub ahead : List ℕ → Run → ℕ
-ahead s r = fill.ahead s (withText r 0)
 
 -- ---- a refusal ends the run
 
@@ -99,10 +91,6 @@ module _ (s : List ℕ) where
     abbrev x : Made
     x = madeOn m r found
 
-    pub falls : ahead s (x .run) < ahead s r
-    unfolding fill.ahead runIn runAt
-    falls = turn-less s m (withText r 0) going
-
     pub on-one : (n : ℕ) → played (suc n) s m r ≡ first x (played n s (storeAt m (found .item)) (x .run))
     unfolding played
     on-one n = ap (λ (go : Bool). cond go (first x (played n s (storeAt m (found .item)) (x .run))) (over r m)) going
@@ -115,8 +103,3 @@ module _ (s : List ℕ) where
       let x = madeOn m r (nextOf s (r .cursor)) in
       ap (λ (p : Played). ticksText (t .wave) (p .records) ++ p .refusal) (on-one m r g n)
       ∙ said (t .wave) (x .run .chip) (x .run .done) (x .event) (x .run .going) (played n s (storeAt m i) (x .run)) (made-over m _ i) (λ e. ap (λ (p : Played). p .records) (is-over n (storeAt m i) (x .run) e))
-
-  -- a run that is not over has a turn left
-  pub some : (r : Run) (n : ℕ) → r .going ≡ true → ahead s r ≤ n → 0 < n
-  unfolding fill.ahead
-  some r n g h = let x = simp g at h in omega arith

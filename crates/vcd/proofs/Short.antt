@@ -8,11 +8,11 @@ use lib.Dec.{eqb, ltb}
 use lib.ListN.{length, length-append}
 use borrow.Author.Tests.{lt-ltb}
 use Rattle.laws.proofs.Choice.{either}
-use Rattle.line.specs.Text.{textOf}
+use Rattle.line.specs.Text.{ascii, textOf}
 use Rattle.vcd.specs.declared.Record.{Record}
 use Rattle.vcd.specs.declared.Wave.{Wave}
 use Rattle.vcd.specs.Signals.{allOf}
-use Rattle.vcd.specs.Text.{ascii, declarations, digitsOf, valueText, changesText, markText, firstText, laterText, refusalText, timeOf, pieceOf}
+use Rattle.vcd.specs.Text.{declarations, digitsOf, valueText, changesText, markText, firstText, laterText, refusalText, timeOf, pieceOf}
 use Rattle.vcd.specs.Machinery.Steps.{partText, beamText, restText}
 use Rattle.vcd.proofs.Pieces.{all-values, changed-values}
 

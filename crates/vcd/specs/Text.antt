@@ -1,20 +1,12 @@
 -- The text of a dump, piece by piece.
 use Prim.Native.Nat.{ℕ, zero, suc, _+_, _-_, _/_, _%_}
-use Prim.Native.Char.{code}
-use Prim.Native.String.{String}
-use Prim.Native.String as S
 use mathlib.Core.Bool.{true, false, cond}
 use mathlib.Core.List.{List, [], _∷_, _++_}
 use lib.Dec.{eqb, ltb}
-use Rattle.line.specs.Text.{textOf}
+use Rattle.line.specs.Text.{ascii, textOf}
 use Rattle.vcd.specs.declared.Record.{Record}
 use Rattle.vcd.specs.declared.Wave.{Wave}
 use Rattle.vcd.specs.Signals.{Change, widthOf, changesOf, allOf}
-
--- a text as bytes
-unfoldable pub ascii : String → List ℕ
-ascii S.[] = []
-ascii (S._∷_ c s) = code c ∷ ascii s
 
 -- IEEE 1364: the declarations; 02 (i): the eight signals
 unfoldable pub declarations : List ℕ

@@ -28,38 +28,16 @@ pub struct Wave {
 
 // ---- text at a place of a buffer; each answers the place after it
 
-// A byte.
-fn byte(out: &mut [u8], at: usize, value: u8) -> usize
-    requires { ⌜ at + 1 ≤ length (now out) ⌝ }
-    ensures { λ r. ⌜ (r ≡ at + 1) × Written (now (out .entry)) at (value ∷ []) (now (out .exit)) r ⌝ }
-{
-    out[at] = value;
-    at + 1
-}
-
-// Bytes that are there already.
-fn text(out: &mut [u8], at: usize, words: &[u8]) -> usize
-    requires { ⌜ at + length (now words) ≤ length (now out) ⌝ }
-    ensures { λ r. ⌜ (r ≡ at + length (now (words .entry))) × Written (now (out .entry)) at (now (words .entry)) (now (out .exit)) r ⌝ }
-{
-    let mut i = 0;
-    while i < words.len() {
-        out[at + i] = words[i];
-        i += 1;
-    }
-    at + i
-}
-
 // A number in decimal, of one digit and at most so many more.
 fn decimal(out: &mut [u8], at: usize, more: u16, n: u64) -> usize
     requires { ⌜ at + more + 1 ≤ length (now out) ⌝ }
     ensures { λ r. ⌜ (r ≤ at + more + 1) × Written (now (out .entry)) at (digitsOf 10 more n) (now (out .exit)) r ⌝ }
 {
     if (more == 0) | (n < 10) {
-        return byte(&mut *out, at, (48 + n % 10) as u8);
+        return line::byte(&mut *out, at, (48 + n % 10) as u8);
     }
     let a = decimal(&mut *out, at, more - 1, n / 10);
-    byte(&mut *out, a, (48 + n % 10) as u8)
+    line::byte(&mut *out, a, (48 + n % 10) as u8)
 }
 
 // The same in binary.
@@ -68,10 +46,10 @@ fn binary(out: &mut [u8], at: usize, more: u16, n: u16) -> usize
     ensures { λ r. ⌜ (r ≤ at + more + 1) × Written (now (out .entry)) at (digitsOf 2 more n) (now (out .exit)) r ⌝ }
 {
     if (more == 0) | (n < 2) {
-        return byte(&mut *out, at, (48 + n % 2) as u8);
+        return line::byte(&mut *out, at, (48 + n % 2) as u8);
     }
     let a = binary(&mut *out, at, more - 1, n / 2);
-    byte(&mut *out, a, (48 + n % 2) as u8)
+    line::byte(&mut *out, a, (48 + n % 2) as u8)
 }
 
 // ---- a signal's value
@@ -81,8 +59,8 @@ fn name(out: &mut [u8], at: usize, signal: u8) -> usize
     requires { ⌜ (at + 2 ≤ length (now out)) × (signal < 8) ⌝ }
     ensures { λ r. ⌜ (r ≡ at + 2) × Written (now (out .entry)) at ((65 + signal) ∷ 10 ∷ []) (now (out .exit)) r ⌝ }
 {
-    let a = byte(&mut *out, at, 65 + signal);
-    byte(&mut *out, a, b'\n')
+    let a = line::byte(&mut *out, at, 65 + signal);
+    line::byte(&mut *out, a, b'\n')
 }
 
 // A signal of one bit.
@@ -90,7 +68,7 @@ fn bit(out: &mut [u8], at: usize, signal: u8, value: u16) -> usize
     requires { ⌜ (at + 3 ≤ length (now out)) × (signal < 8) ⌝ }
     ensures { λ r. ⌜ (r ≡ at + 3) × Written (now (out .entry)) at ((48 + value % 2) ∷ (65 + signal) ∷ 10 ∷ []) (now (out .exit)) r ⌝ }
 {
-    let a = byte(&mut *out, at, (48 + value % 2) as u8);
+    let a = line::byte(&mut *out, at, (48 + value % 2) as u8);
     name(&mut *out, a, signal)
 }
 
@@ -99,9 +77,9 @@ fn vector(out: &mut [u8], at: usize, signal: u8, more: u16, value: u16) -> usize
     requires { ⌜ (at + more + 5 ≤ length (now out)) × (signal < 8) ⌝ }
     ensures { λ r. ⌜ (r ≤ at + more + 5) × Written (now (out .entry)) at (98 ∷ (digitsOf 2 more value ++ (32 ∷ (65 + signal) ∷ 10 ∷ []))) (now (out .exit)) r ⌝ }
 {
-    let a = byte(&mut *out, at, b'b');
+    let a = line::byte(&mut *out, at, b'b');
     let b = binary(&mut *out, a, more, value);
-    let c = byte(&mut *out, b, b' ');
+    let c = line::byte(&mut *out, b, b' ');
     name(&mut *out, c, signal)
 }
 
@@ -166,7 +144,7 @@ pub fn declare(out: &mut [u8], at: usize) -> usize
     requires { ⌜ at + 292 ≤ length (now out) ⌝ }
     ensures { λ r. ⌜ (r ≡ at + 292) × (now (out .exit) ≡ pasted (now (out .entry)) at declarations) ⌝ }
 {
-    text(
+    line::text(
         out,
         at,
         b"$version Nickelplait $end\n$timescale 1 us $end\n$scope module vic $end\n$var wire 7 A cycle $end\n$var wire 9 B raster $end\n$var wire 1 C ba $end\n$var wire 1 D aec $end\n$var wire 8 E dma $end\n$var wire 3 F rc $end\n$var wire 10 G vc $end\n$var wire 1 H irq $end\n$upscope $end\n$enddefinitions $end\n",
@@ -178,9 +156,9 @@ fn first(out: &mut [u8], at: usize, r: Record) -> usize
     requires { ⌜ at + 130 ≤ length (now out) ⌝ }
     ensures { λ e. ⌜ (e ≤ at + 130) × Written (now (out .entry)) at (firstText r) (now (out .exit)) e ⌝ }
 {
-    let a = text(&mut *out, at, b"#0\n$dumpvars\n");
+    let a = line::text(&mut *out, at, b"#0\n$dumpvars\n");
     let b = values(&mut *out, a, true, r, r);
-    text(&mut *out, b, b"$end\n")
+    line::text(&mut *out, b, b"$end\n")
 }
 
 // A time mark.
@@ -188,9 +166,9 @@ fn mark(out: &mut [u8], at: usize, time: u64) -> usize
     requires { ⌜ at + 22 ≤ length (now out) ⌝ }
     ensures { λ e. ⌜ (e ≤ at + 22) × Written (now (out .entry)) at (markText time) (now (out .exit)) e ⌝ }
 {
-    let a = byte(&mut *out, at, b'#');
+    let a = line::byte(&mut *out, at, b'#');
     let b = decimal(&mut *out, a, 19, time);
-    byte(&mut *out, b, b'\n')
+    line::byte(&mut *out, b, b'\n')
 }
 
 // A later tick: its time, and the values that changed.
@@ -207,10 +185,10 @@ pub fn refused(out: &mut [u8], at: usize, number: u8, done: u16) -> usize
     requires { ⌜ at + 34 ≤ length (now out) ⌝ }
     ensures { λ e. ⌜ (e ≡ at + length (refusalText number done)) × (now (out .exit) ≡ pasted (now (out .entry)) at (refusalText number done)) ⌝ }
 {
-    let a = text(&mut *out, at, b"$comment refused ");
+    let a = line::text(&mut *out, at, b"$comment refused ");
     let b = line::put(&mut *out, a, laws::wide(number), b' ');
     let c = line::put(&mut *out, b, done, b' ');
-    text(&mut *out, c, b"$end\n")
+    line::text(&mut *out, c, b"$end\n")
 }
 
 // ---- tick after tick

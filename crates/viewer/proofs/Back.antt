@@ -9,11 +9,11 @@ use lib.Dec.{eqb, ltb}
 use lib.ListN.{length}
 use borrow.Author.Tests.{lt-ltb, ne-eqb}
 use Rattle.laws.proofs.Choice.{either}
-use Rattle.line.specs.Text.{glyphOf, textOf}
+use Rattle.line.specs.Text.{ascii, glyphOf, textOf}
 use Rattle.vcd.specs.declared.Record.{Record}
 use Rattle.vcd.specs.declared.Wave.{Wave}
 use Rattle.vcd.specs.Signals.{Within, valuesOf, changesOf, allOf}
-use Rattle.vcd.specs.Text.{ascii, declarations, changesText, markText, firstText, laterText, refusalText, nextTime, timeOf, pieceOf, waveAfter, fresh, ticksText, dumpText}
+use Rattle.vcd.specs.Text.{declarations, changesText, markText, firstText, laterText, refusalText, nextTime, timeOf, pieceOf, waveAfter, fresh, ticksText, dumpText}
 use Rattle.viewer.specs.Words.{Word, goesOn, before, wordsOf, same}
 use Rattle.viewer.specs.Reader.{Value, Unknown, Is, Aside, State, state, start, numberFrom, areDigits, declared, inHeading, marked, inBody, stepBy, step, Seen, seen, repeated, shown, lastShown, views, seenFrom}
 use Rattle.viewer.proofs.Split.{blacks, word-split, still}

@@ -8,7 +8,8 @@ use lib.Dec.{ltb, leb}
 use lib.ListN.{length, set, getD}
 use borrow.Author.Tests.{le-leb}
 use Rattle.vcd.specs.Signals.{change, widthOf}
-use Rattle.vcd.specs.Text.{ascii, digitsOf, valueText, changeText}
+use Rattle.line.specs.Text.{ascii}
+use Rattle.vcd.specs.Text.{digitsOf, valueText, changeText}
 use Rattle.vcd.proofs.Short.{digits-few}
 use Rattle.viewer.specs.Words.{Word, same, wordsOf}
 use Rattle.viewer.specs.Reader.{Value, Unknown, Is, Entry, Phase, Body, Valued, State, state, numberFrom, areDigits, placeFrom, widthAt, staleBy, changed, inBody, stepBy, step, views}

@@ -6,7 +6,7 @@ use lib.Dec.{eqb, ltb, leb}
 use lib.ListN.{length, set, getD}
 use Rattle.vcd.specs.declared.Record.{Record}
 use Rattle.vcd.specs.Signals.{valuesOf}
-use Rattle.vcd.specs.Text.{ascii}
+use Rattle.line.specs.Text.{ascii}
 use Rattle.viewer.specs.Words.{Word, same}
 
 -- a signal's value, unknown until it is given

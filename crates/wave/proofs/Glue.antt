@@ -13,7 +13,7 @@ use Rattle.chip.specs.declared.Answer.{Answer}
 use Rattle.vcd.specs.declared.Record.{Record}
 use Rattle.vcd.specs.declared.Wave.{Wave}
 use Rattle.vcd.specs.Text.{declarations, pieceOf, waveAfter}
-use Rattle.vcd.proofs.Copy.{pasted-is}
+use Rattle.line.proofs.Copy.{pasted-is}
 use Rattle.vcd.proofs.Short.{declarations-292, piece-at-most-88}
 use Rattle.wave.specs.declared.Told.{Told}
 use Rattle.wave.specs.Wave.{recordOf, over, Declared, declared, declaredIn, told, Heard, heard, wroteTick, numberOf, heardWith}

@@ -1,4 +1,4 @@
-use Rattle.access.specs.Slots.{dataAfter, wordsAfter, byteOne, byteZero}
+use Rattle.access.specs.Slots.{dataSpots, dataAfter, wordsAfter, byteOne, byteZero}
 use lib.ListN.{length-set}
 use native.Mathlib.Omega.{arith}
 use borrow.Author.Needs.{needs}
@@ -60,14 +60,14 @@ same-length-2 : tie.Need-same-length-2
 same-length-2 c = search needs
 
 returns : tie.Need-returns
-unfolding dataAfter wordsAfter byteOne byteZero
+unfolding dataSpots dataAfter wordsAfter byteOne byteZero
 returns c =
     let p = c .before .before .or-open .ensures in
     let q = c .before .before .before .read2 .ensures in
     let r = c .before .before .before .before .byte-address2 .ensures in
     let s = c .before .before .before .before .before .read .ensures in
     let t = c .before .before .before .before .before .before .byte-address .ensures in
-    (simp (p, q, r, s, t), simp (c .word-of .ensures, p, q, r, s, t))
+    (simp (q, r, s, t), (simp (p, q, r, s, t), simp (c .word-of .ensures, p, q, r, s, t)))
 
 pub data-slot-spec : {M : Type 1} → statement M
 data-slot-spec =

@@ -1,7 +1,7 @@
 use native.Mathlib.Omega.{arith}
-use Rattle.rows.proofs.Laws.{place-small}
-use Rattle.access.specs.Matrix.{filled}
 use borrow.Author.Needs.{needs}
+use Rattle.rows.proofs.Laws.{place-small}
+use Rattle.access.specs.Matrix.{matrixEntry, fillSpot, filled}
 use Rattle.access.proofs.fill.Statement.{statement}
 use Rattle.access.proofs.fill.Tie as tie
 
@@ -11,8 +11,8 @@ place-requires c κs = search needs
 cast-at : tie.Need-cast-at
 cast-at c = search needs
 
-matrix-word-requires : tie.Need-matrix-word-requires
-matrix-word-requires c κs = search needs
+matrix-entry-requires : tie.Need-matrix-entry-requires
+matrix-entry-requires c κs = search needs
 
 mul-matrix : tie.Need-mul-matrix
 mul-matrix c = search needs
@@ -24,12 +24,15 @@ same-length : tie.Need-same-length
 same-length c = search needs
 
 returns : tie.Need-returns
-unfolding filled
-returns c = simp (c .matrix-word .ensures, c .before .place .ensures, c .before .before .if1 .taken)
+unfolding fillSpot filled matrixEntry
+returns c =
+    let entry = c .matrix-entry .ensures in
+    let go = c .before .before .if1 .taken in
+    (simp (entry, go), simp (entry, c .before .place .ensures, go))
 
 returns-2 : tie.Need-returns-2
-unfolding filled
-returns-2 c = simp (c .if1 .left)
+unfolding fillSpot filled
+returns-2 c = let go = c .if1 .left in (simp go, simp go)
 
 pub fill-spec : {M : Type 1} → statement M
 fill-spec =
@@ -37,7 +40,7 @@ fill-spec =
     (tie.spec
     place-requires
     cast-at
-    matrix-word-requires
+    matrix-entry-requires
     mul-matrix
     slice-write-matrix
     same-length

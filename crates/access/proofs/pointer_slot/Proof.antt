@@ -1,4 +1,4 @@
-use Rattle.access.specs.Slots.{pointersAfter, byteTwoAfter}
+use Rattle.access.specs.Slots.{pointerSpots, pointersAfter, byteTwoAfter}
 use borrow.Author.Needs.{needs}
 use Rattle.access.proofs.pointer_slot.Statement.{statement}
 use Rattle.access.proofs.pointer_slot.Tie as tie
@@ -49,11 +49,13 @@ same-length-2 : tie.Need-same-length-2
 same-length-2 c = search needs
 
 returns : tie.Need-returns
-unfolding pointersAfter byteTwoAfter
+unfolding pointerSpots pointersAfter byteTwoAfter
 returns c =
+    let q = c .before .read2 .ensures in
+    let r = c .before .before .byte-address .ensures in
     let s = c .before .before .before .read .ensures in
     let t = c .before .before .before .before .wide .ensures in
-    (simp (s, t), simp (c .or-open .ensures, c .before .read2 .ensures, c .before .before .byte-address .ensures, s, t))
+    (simp (q, r, s, t), (simp (s, t), simp (c .or-open .ensures, q, r, s, t)))
 
 pub pointer-slot-spec : {M : Type 1} → statement M
 pointer-slot-spec =

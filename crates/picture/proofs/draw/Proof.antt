@@ -26,7 +26,8 @@ returns c =
     let clock = back64 (start .args .clock) (start .fits .clock .sfits) in
     let forced = back64 (start .args .pen .forced) (c .struct-told .given .1 .1 .1 .1 .1 .1 .0 .1) in
     let gfx = rw clock at (c .before .before .before .before .before .before .graphics .ensures) in
-    drawn _ _ _ _ _ _ _ _ _ _ (rw clock at (latch .0)) (rw clock at (latch .1)) gfx (c .before .before .before .before .fill .ensures) (c .before .pick8 .ensures) forced
+    let fill = c .before .before .before .before .fill .ensures in
+    drawn _ _ _ _ _ _ _ _ _ _ (rw clock at (latch .0)) (rw clock at (latch .1)) gfx (fill .0) (fill .1) (c .before .pick8 .ensures) forced
 
 pub draw-spec : {M : Type 1} → statement M
 draw-spec =

@@ -28,7 +28,8 @@ returns c =
     let forced = back64 (start .args .pen .forced) (c .struct-told .given .1 .1 .1 .1 .1 .1 .0 .1) in
     let same = kept _ (start .args .orders) (start .args .clock) (start .args .pen) dark in
     let gfx = cleared _ (start .args .orders) (start .args .clock) (start .args .pen) _ _ _ _ _ dark (c .before .before .before .before .before .before .before .graphics-cleared .ensures) (c .before .before .before .before .before .before .pick8 .ensures) in
-    drawn _ _ _ _ _ _ _ _ _ _ (same .0) (same .1) gfx (c .before .before .before .before .fill .ensures) (c .before .pick82 .ensures) forced
+    let fill = c .before .before .before .before .fill .ensures in
+    drawn _ _ _ _ _ _ _ _ _ _ (same .0) (same .1) gfx (fill .0) (fill .1) (c .before .pick82 .ensures) forced
 
 pub draw-dark-spec : {M : Type 1} → statement M
 draw-dark-spec =

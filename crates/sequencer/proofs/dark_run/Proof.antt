@@ -4,6 +4,8 @@ use Prim.Native.Nat.{ℕ, _-_}
 use native.Mathlib.Omega.{arith}
 use borrow.Author.Needs.{needs}
 use Rattle.memory.specs.Lent.{host}
+use Rattle.access.specs.Machinery.Noted.{readsIn}
+use Rattle.access.proofs.Back.{none-noted}
 use Rattle.schedule.specs.Machinery.Stretches.{beforeGraphics}
 use Rattle.sequencer.specs.World.{world}
 use Rattle.sequencer.proofs.Runs.{ready}
@@ -15,17 +17,17 @@ abbrev goes : ℕ → Bool
 goes c = not (beforeGraphics c)
 
 abbrev Inv-loop : tie.InvT-loop
-Inv-loop regs matrix₀ pointers₀ bytes₀ words₀ ram rom colour bank n now₀ i₀ matrix pointers bytes words now i =
-    Parting (host ram rom colour bank) regs goes (world now₀ matrix₀ pointers₀ bytes₀ words₀) n (world now matrix pointers bytes words) i
+Inv-loop regs matrix₀ pointers₀ bytes₀ words₀ ram rom colour bank n now₀ noted₀ i₀ matrix pointers bytes words now noted i =
+    Parting (host ram rom colour bank) regs goes (world now₀ matrix₀ pointers₀ bytes₀ words₀) n (world now matrix pointers bytes words) i (readsIn noted)
 
 abbrev μ-loop : tie.MeasureT-loop
-μ-loop regs matrix₀ pointers₀ bytes₀ words₀ ram rom colour bank n now₀ i₀ matrix pointers bytes words now i =
+μ-loop regs matrix₀ pointers₀ bytes₀ words₀ ram rom colour bank n now₀ noted₀ i₀ matrix pointers bytes words now noted i =
     n - i
 
 loop-holds : tie.Need-loop-holds Inv-loop μ-loop
 loop-holds c =
     let start = c .before .before .before .before .before .before .before in
-    started (host (start .args .ram .now) (start .args .rom .now) (start .args .colour .now) (start .args .bank)) (start .args .regs) goes (world (start .args .core) (start .args .matrix .now) (start .args .pointers .now) (start .args .bytes .now) (start .args .words .now)) (start .args .n) (start .pre .0) (start .pre .1)
+    started (host (start .args .ram .now) (start .args .rom .now) (start .args .colour .now) (start .args .bank)) (start .args .regs) goes (world (start .args .core) (start .args .matrix .now) (start .args .pointers .now) (start .args .bytes .now) (start .args .words .now)) (start .args .n) none-noted (start .pre .0) (start .pre .1)
 
 before-graphics-requires : tie.Need-before-graphics-requires Inv-loop μ-loop
 before-graphics-requires c κs = search needs
@@ -54,16 +56,16 @@ inner-dark-requires c κs =
     (ready (inv .going .held) (tickable-now (host (start .args .ram .now) (start .args .rom .now) (start .args .colour .now) (start .args .bank)) (start .args .regs) goes (world (start .args .core) (start .args .matrix .now) (start .args .pointers .now) (start .args .bytes .now) (start .args .words .now)) (start .args .n) inv (c .before .before .before .before .before .before .before .before .loop-test .taken)), sym (c .before .before .before .before .before .before-graphics .ensures) ∙ c .before .before .before .before .if1 .left)
 
 add-i : tie.Need-add-i Inv-loop μ-loop
-add-i c = omega (arith, c .before .before .before .before .before .before .before .before .before .before .before .before .before .before .before .before .before .before .before .before .before .before .before .before .before .before .fits .n, c .before .before .before .before .before .before .before .before .before .before .before .before .before .before .before .before .before .loop-test .taken)
+add-i c = omega (arith, c .before .before .before .before .before .before .before .before .before .before .before .before .before .before .before .before .before .before .before .before .before .before .before .before .before .before .before .fits .n, c .before .before .before .before .before .before .before .before .before .before .before .before .before .before .before .before .before .before .loop-test .taken)
 
 loop-less : tie.Need-loop-less Inv-loop μ-loop
-loop-less c = omega (arith, c .before .before .before .before .before .before .before .before .before .before .before .before .before .before .before .before .before .loop-test .taken)
+loop-less c = omega (arith, c .before .before .before .before .before .before .before .before .before .before .before .before .before .before .before .before .before .before .loop-test .taken)
 
 loop-again : tie.Need-loop-again Inv-loop μ-loop
 loop-again c =
-    let start = c .before .before .before .before .before .before .before .before .before .before .before .before .before .before .before .before .before .before .before .before .before .before .before .before .before .before in
-    let inner = c .before .before .before .before .before .before .before .before .inner-dark in
-    further (host (start .args .ram .now) (start .args .rom .now) (start .args .colour .now) (start .args .bank)) (start .args .regs) goes (world (start .args .core) (start .args .matrix .now) (start .args .pointers .now) (start .args .bytes .now) (start .args .words .now)) (start .args .n) (c .before .before .before .before .before .before .before .before .before .before .before .before .before .before .before .before .before .before .loop .inv) (c .before .before .before .before .before .before .before .before .before .before .before .before .before .before .before .before .before .loop-test .taken) (inner .ensures)
+    let start = c .before .before .before .before .before .before .before .before .before .before .before .before .before .before .before .before .before .before .before .before .before .before .before .before .before .before .before in
+    let inner = c .before .before .before .before .before .before .before .before .before .inner-dark in
+    further (host (start .args .ram .now) (start .args .rom .now) (start .args .colour .now) (start .args .bank)) (start .args .regs) goes (world (start .args .core) (start .args .matrix .now) (start .args .pointers .now) (start .args .bytes .now) (start .args .words .now)) (start .args .n) (c .before .before .before .before .before .before .before .before .before .before .before .before .before .before .before .before .before .before .before .loop .inv) (c .before .before .before .before .before .before .before .before .before .before .before .before .before .before .before .before .before .before .loop-test .taken) (inner .ensures .0) (inner .ensures .1)
     (inner .kept .1 .1 .0) (inner .kept .1 .1 .1 .0) (inner .kept .1 .1 .1 .1 .0) (inner .kept .1 .1 .1 .1 .1 .0)
 
 same-length-5 : tie.Need-same-length-5 Inv-loop μ-loop

@@ -2,7 +2,7 @@ use Rattle.laws.proofs.Signs.{back64}
 use Rattle.memory.specs.Lent.{host}
 use Rattle.side.proofs.Laws.{slot-of-eight, dark-graphics}
 use Rattle.sequencer.specs.World.{world}
-use Rattle.sequencer.proofs.Glue.{can-range, tick-glue}
+use Rattle.sequencer.proofs.Glue.{can-range, tick-glue, drawn-pen, dark-told}
 use borrow.Author.Needs.{needs}
 use Rattle.sequencer.proofs.inner_dark.Statement.{statement}
 use Rattle.sequencer.proofs.inner_dark.Tie as tie
@@ -29,6 +29,9 @@ draw-dark-requires c κs =
     let pre = start .pre .0 in
     (pre .forty, (rw (c .before .before .before .before .before .before .before .before .before .before .before .before .before .before .before .before .turn-dark .ensures) (dark-graphics _ _ (start .pre .1)), (pre .lent, pre .colour)))
 
+noted-dark-requires : tie.Need-noted-dark-requires
+noted-dark-requires c κs = search needs
+
 same-length : tie.Need-same-length
 same-length c = search needs
 
@@ -43,18 +46,25 @@ same-length-4 c = search needs
 
 returns : tie.Need-returns
 returns c =
-    let start = c .before .before .before .before .before .before .before .before .before .before .before .before .before .before .before .before .before .before .before .before .before .before .before .before .before .before .before .before .before .before .args in
-    let slot = c .before .before .before .before .before .before .before .before .before .before .before .before .slot .ensures in
-    let draw = c .before .before .draw-dark .ensures in
-    let back = back64 (c .before .before .before .before .before .before .before .before .before .before .before .before .before .before .before .before .before .before .before .turn-dark .result .side .bus .clock) (c .before .before .before .struct-told .given .0 .1) in
-    let h = host (start .ram .now) (start .rom .now) (start .colour .now) (start .bank) in
-    let w = world (start .core) (start .matrix .now) (start .pointers .now) (start .bytes .now) (start .words .now) in
-    tick-glue h (start .regs) w
-    (c .before .before .before .before .before .before .before .before .before .before .before .before .before .before .before .before .before .before .before .before .timed .ensures)
-    (c .before .before .before .before .before .before .before .before .before .before .before .before .before .before .before .before .before .before .before .turn-dark .ensures)
-    (slot .0) (slot .1 .0) (slot .1 .1)
-    (c .before .before .before .before .before .mode .ensures)
-    (rw back at (draw .0)) (rw back at (draw .1))
+    let start = c .before .before .before .before .before .before .before .before .before .before .before .before .before .before .before .before .before .before .before .before .before .before .before .before .before .before .before .before .before .before .before .before .before in
+    let args = start .args in
+    let turned = c .before .before .before .before .before .before .before .before .before .before .before .before .before .before .before .before .before .before .before .before .before .before .turn-dark in
+    let slot = c .before .before .before .before .before .before .before .before .before .before .before .before .before .before .before .slot .ensures in
+    let draw = c .before .before .before .before .before .draw-dark .ensures in
+    let back = back64 (turned .result .side .bus .clock) (c .before .before .before .before .before .before .struct-told .given .0 .1) in
+    let h = host (args .ram .now) (args .rom .now) (args .colour .now) (args .bank) in
+    let w = world (args .core) (args .matrix .now) (args .pointers .now) (args .bytes .now) (args .words .now) in
+    let controls = c .before .before .before .before .before .before .before .before .before .before .before .before .before .before .before .before .before .before .before .before .before .before .before .timed .ensures in
+    let mode = c .before .before .before .before .before .before .before .before .mode .ensures in
+    let drawn = rw back at (draw .0) in (
+      tick-glue h (args .regs) w
+          controls
+          (turned .ensures)
+          (slot .1 .0) (slot .1 .1 .0) (slot .1 .1 .1)
+          mode
+          (drawn-pen _ (turned .result) _ _ _ _ _ _ _ drawn) (rw back at (draw .1)),
+      dark-told h (args .regs) w controls (turned .ensures) mode drawn (start .pre .1) (slot .0) (c .noted-dark .ensures),
+    )
 
 pub inner-dark-spec : {M : Type 1} → statement M
 inner-dark-spec =
@@ -65,6 +75,7 @@ inner-dark-spec =
     slot-requires
     mode-requires
     draw-dark-requires
+    noted-dark-requires
     same-length
     same-length-2
     same-length-3

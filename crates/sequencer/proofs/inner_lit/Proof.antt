@@ -9,7 +9,7 @@ use Rattle.side.proofs.Kept.{side-clock}
 use Rattle.picture.specs.Pen.{Latches}
 use Rattle.picture.proofs.Laws.{no-slot}
 use Rattle.sequencer.specs.World.{world}
-use Rattle.sequencer.proofs.Glue.{can-range, tick-glue}
+use Rattle.sequencer.proofs.Glue.{can-range, tick-glue, drawn-pen, lit-told}
 use borrow.Author.Needs.{needs}
 use Rattle.sequencer.proofs.inner_lit.Statement.{statement}
 use Rattle.sequencer.proofs.inner_lit.Tie as tie
@@ -33,27 +33,35 @@ draw-requires c κs =
     let clock : inRange (turned .result .side .bus .clock) = rw (turned .ensures, side-clock) (clock-on-range (start .args .core .side .bus .clock) (pre .clock)) in
     (pre .forty, ((rw (back64 (turned .result .side .bus .clock) (c .struct-told .given .0 .1)) clock, pre .forced), (pre .lent, pre .colour)))
 
+noted-lit-requires : tie.Need-noted-lit-requires
+noted-lit-requires c κs = search needs
+
 same-length : tie.Need-same-length
 same-length c = search needs
 
 returns : tie.Need-returns
 returns c =
-    let start = c .before .before .before .before .before .before .before .before .before .before .before .before .before .before .before .before .before .before .before .before in
+    let start = c .before .before .before .before .before .before .before .before .before .before .before .before .before .before .before .before .before .before .before .before .before .before .before in
     let args = start .args in
-    let turned = c .before .before .before .before .before .before .before .before .before .turn-lit in
-    let draw = c .before .before .draw .ensures in
-    let back = back64 (turned .result .side .bus .clock) (c .before .before .before .struct-told .given .0 .1) in
+    let turned = c .before .before .before .before .before .before .before .before .before .before .before .before .turn-lit in
+    let draw = c .before .before .before .before .before .draw .ensures in
+    let back = back64 (turned .result .side .bus .clock) (c .before .before .before .before .before .before .struct-told .given .0 .1) in
     let h = host (args .ram .now) (args .rom .now) (args .colour .now) (args .bank) in
     let w = world (args .core) (args .matrix .now) (args .pointers .now) (args .bytes .now) (args .words .now) in
     let pointing : turned .result .orders .pointing ≡ false = rw (turned .ensures) (lit-pointing _ _ (start .pre .1)) in
     let fetching : turned .result .orders .fetching ≡ false = rw (turned .ensures) (lit-fetching _ _ (start .pre .1)) in
     let none = no-slot (args .pointers .now) (args .bytes .now) (args .words .now) (turned .result .orders) (args .regs .ptrs) (args .ram .now) (args .rom .now) (args .bank) pointing fetching in
-    tick-glue h (args .regs) w
-    (c .before .before .before .before .before .before .before .before .before .before .timed .ensures)
-    (turned .ensures)
-    (ap (λ (l : Latches). l .pointers) none) (ap (λ (l : Latches). l .bytes) none) (ap (λ (l : Latches). l .words) none)
-    (c .before .before .before .before .before .mode .ensures)
-    (rw back at (draw .0)) (rw back at (draw .1))
+    let controls = c .before .before .before .before .before .before .before .before .before .before .before .before .before .timed .ensures in
+    let mode = c .before .before .before .before .before .before .before .before .mode .ensures in
+    let drawn = rw back at (draw .0) in (
+      tick-glue h (args .regs) w
+          controls
+          (turned .ensures)
+          (ap (λ (l : Latches). l .pointers) none) (ap (λ (l : Latches). l .bytes) none) (ap (λ (l : Latches). l .words) none)
+          mode
+          (drawn-pen _ (turned .result) _ _ _ _ _ _ _ drawn) (rw back at (draw .1)),
+      lit-told h (args .regs) w controls (turned .ensures) mode drawn (start .pre .1) (c .noted-lit .ensures),
+    )
 
 pub inner-lit-spec : {M : Type 1} → statement M
 inner-lit-spec =
@@ -63,5 +71,6 @@ inner-lit-spec =
     turn-lit-requires
     mode-requires
     draw-requires
+    noted-lit-requires
     same-length
     returns)

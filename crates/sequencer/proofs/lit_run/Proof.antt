@@ -5,6 +5,8 @@ use native.Mathlib.Omega.{arith}
 use borrow.Author.Needs.{needs}
 use borrow.Author.Tests.{not-true, not-false}
 use Rattle.memory.specs.Lent.{host}
+use Rattle.access.specs.Machinery.Noted.{readsIn}
+use Rattle.access.proofs.Back.{none-noted}
 use Rattle.schedule.specs.Machinery.Stretches.{beforeGraphics}
 use Rattle.sequencer.specs.World.{world}
 use Rattle.schedule.specs.Kind.{kindOf}
@@ -19,17 +21,17 @@ abbrev goes : ℕ → Bool
 goes c = beforeGraphics c
 
 abbrev Inv-loop : tie.InvT-loop
-Inv-loop regs matrix₀ pointers₀ bytes₀ words₀ ram rom colour bank n now₀ i₀ matrix pointers bytes words now i =
-    Parting (host ram rom colour bank) regs goes (world now₀ matrix₀ pointers₀ bytes₀ words₀) n (world now matrix pointers bytes words) i
+Inv-loop regs matrix₀ pointers₀ bytes₀ words₀ ram rom colour bank n now₀ noted₀ i₀ matrix pointers bytes words now noted i =
+    Parting (host ram rom colour bank) regs goes (world now₀ matrix₀ pointers₀ bytes₀ words₀) n (world now matrix pointers bytes words) i (readsIn noted)
 
 abbrev μ-loop : tie.MeasureT-loop
-μ-loop regs matrix₀ pointers₀ bytes₀ words₀ ram rom colour bank n now₀ i₀ matrix pointers bytes words now i =
+μ-loop regs matrix₀ pointers₀ bytes₀ words₀ ram rom colour bank n now₀ noted₀ i₀ matrix pointers bytes words now noted i =
     n - i
 
 loop-holds : tie.Need-loop-holds Inv-loop μ-loop
 loop-holds c =
     let start = c .before .before .before .before .before .before .before in
-    started (host (start .args .ram .now) (start .args .rom .now) (start .args .colour .now) (start .args .bank)) (start .args .regs) goes (world (start .args .core) (start .args .matrix .now) (start .args .pointers .now) (start .args .bytes .now) (start .args .words .now)) (start .args .n) (start .pre .0) (start .pre .1)
+    started (host (start .args .ram .now) (start .args .rom .now) (start .args .colour .now) (start .args .bank)) (start .args .regs) goes (world (start .args .core) (start .args .matrix .now) (start .args .pointers .now) (start .args .bytes .now) (start .args .words .now)) (start .args .n) none-noted (start .pre .0) (start .pre .1)
 
 before-graphics-requires : tie.Need-before-graphics-requires Inv-loop μ-loop
 before-graphics-requires c κs = search needs
@@ -82,30 +84,30 @@ inner-lit-requires c κs =
     (ready-later h (start .args .regs) goes w (start .args .n) k (loop .inv) (few (c .before .before .before .before .before .before .skippable .result) (c .before .before .before .before .before .before .before .before .before .before .before .before .loop .now .side .beam .cycle) (c .before .before .before .before .before .before .before .before .before .before .before .before .loop .i) (c .before .before .before .before .before .before .before .before .before .before .before .before .before .before .before .before .before .before .before .before .args .n) count (c .before .before .before .before .before .before .before .before .before .before .before .loop-test .taken)), lit-later (loop .now .side .beam .cycle) k (place (c .before .before .before .before .before .before .skippable .result) (c .before .before .before .before .before .before .before .before .before .before .before .before .loop .now .side .beam .cycle) (c .before .before .before .before .before .before .before .before .before .before .before .before .loop .i) (c .before .before .before .before .before .before .before .before .before .before .before .before .before .before .before .before .before .before .before .before .args .n) count) lit)
 
 add-i : tie.Need-add-i Inv-loop μ-loop
-add-i c = omega (arith, c .before .before .before .before .before .before .before .before .before .before .before .before .before .before .before .before .before .before .before .before .before .before .before .before .before .before .before .before .before .fits .n, c .before .before .before .before .before .before .before .before .before .before .before .before .before .before .before .before .before .before .before .before .loop-test .taken)
+add-i c = omega (arith, c .before .before .before .before .before .before .before .before .before .before .before .before .before .before .before .before .before .before .before .before .before .before .before .before .before .before .before .before .before .before .fits .n, c .before .before .before .before .before .before .before .before .before .before .before .before .before .before .before .before .before .before .before .before .before .loop-test .taken)
 
 cast-i : tie.Need-cast-i Inv-loop μ-loop
 cast-i c = search needs
 
 add-i-2 : tie.Need-add-i-2 Inv-loop μ-loop
-add-i-2 c = omega (arith, c .before .before .before .before .before .before .before .before .before .before .before .before .before .before .before .before .before .before .before .before .before .before .before .before .before .before .before .before .before .fits .n, few (c .before .before .before .before .before .before .before .before .before .before .before .before .before .before .before .skippable .result) (c .before .before .before .before .before .before .before .before .before .before .before .before .before .before .before .before .before .before .before .before .before .loop .now .side .beam .cycle) (c .before .before .before .before .before .before .before .before .before .before .before .before .before .before .before .before .before .before .before .before .before .loop .i) (c .before .before .before .before .before .before .before .before .before .before .before .before .before .before .before .before .before .before .before .before .before .before .before .before .before .before .before .before .before .args .n) (c .before .before .before .before .before .before .before .before .before .before .before .before .before .before .skips .ensures) (c .before .before .before .before .before .before .before .before .before .before .before .before .before .before .before .before .before .before .before .before .loop-test .taken))
+add-i-2 c = omega (arith, c .before .before .before .before .before .before .before .before .before .before .before .before .before .before .before .before .before .before .before .before .before .before .before .before .before .before .before .before .before .before .fits .n, few (c .before .before .before .before .before .before .before .before .before .before .before .before .before .before .before .before .skippable .result) (c .before .before .before .before .before .before .before .before .before .before .before .before .before .before .before .before .before .before .before .before .before .before .loop .now .side .beam .cycle) (c .before .before .before .before .before .before .before .before .before .before .before .before .before .before .before .before .before .before .before .before .before .before .loop .i) (c .before .before .before .before .before .before .before .before .before .before .before .before .before .before .before .before .before .before .before .before .before .before .before .before .before .before .before .before .before .before .args .n) (c .before .before .before .before .before .before .before .before .before .before .before .before .before .before .before .skips .ensures) (c .before .before .before .before .before .before .before .before .before .before .before .before .before .before .before .before .before .before .before .before .before .loop-test .taken))
 
 loop-less : tie.Need-loop-less Inv-loop μ-loop
-loop-less c = omega (arith, c .before .before .before .before .before .before .before .before .before .before .before .before .before .before .before .before .before .before .before .before .loop-test .taken)
+loop-less c = omega (arith, c .before .before .before .before .before .before .before .before .before .before .before .before .before .before .before .before .before .before .before .before .before .loop-test .taken)
 
 loop-again : tie.Need-loop-again Inv-loop μ-loop
 loop-again c =
-    let start = c .before .before .before .before .before .before .before .before .before .before .before .before .before .before .before .before .before .before .before .before .before .before .before .before .before .before .before .before .before in
+    let start = c .before .before .before .before .before .before .before .before .before .before .before .before .before .before .before .before .before .before .before .before .before .before .before .before .before .before .before .before .before .before in
     let h = host (start .args .ram .now) (start .args .rom .now) (start .args .colour .now) (start .args .bank) in
     let w = world (start .args .core) (start .args .matrix .now) (start .args .pointers .now) (start .args .bytes .now) (start .args .words .now) in
-    let loop = c .before .before .before .before .before .before .before .before .before .before .before .before .before .before .before .before .before .before .before .before .before .loop in
-    let k = c .before .before .before .before .before .before .before .before .before .before .before .before .before .before .skips .result in
-    let count = c .before .before .before .before .before .before .before .before .before .before .before .before .before .before .skips .ensures in
-    let inner = c .before .before .before .before .before .before .before .before .inner-lit in
+    let loop = c .before .before .before .before .before .before .before .before .before .before .before .before .before .before .before .before .before .before .before .before .before .before .loop in
+    let k = c .before .before .before .before .before .before .before .before .before .before .before .before .before .before .before .skips .result in
+    let count = c .before .before .before .before .before .before .before .before .before .before .before .before .before .before .before .skips .ensures in
+    let inner = c .before .before .before .before .before .before .before .before .before .inner-lit in
     let now = world (loop .now) (loop .matrix) (loop .pointers) (loop .bytes) (loop .words) in
-    further-by h (start .args .regs) goes w (start .args .n) k (loop .inv) (few (c .before .before .before .before .before .before .before .before .before .before .before .before .before .before .before .skippable .result) (c .before .before .before .before .before .before .before .before .before .before .before .before .before .before .before .before .before .before .before .before .before .loop .now .side .beam .cycle) (c .before .before .before .before .before .before .before .before .before .before .before .before .before .before .before .before .before .before .before .before .before .loop .i) (c .before .before .before .before .before .before .before .before .before .before .before .before .before .before .before .before .before .before .before .before .before .before .before .before .before .before .before .before .before .args .n) count (c .before .before .before .before .before .before .before .before .before .before .before .before .before .before .before .before .before .before .before .before .loop-test .taken))
-    (may (start .args .regs) (loop .now) now (c .before .before .before .before .before .before .before .before .before .before .before .before .before .before .before .skippable .result) (loop .i) (start .args .n) refl refl (c .before .before .before .before .before .before .before .before .before .before .before .before .before .before .before .skippable .ensures) count)
-    (rw (c .before .before .before .before .before .before .before .before .before .before .before .before .before .leap .ensures) at (inner .ensures))
+    further-by h (start .args .regs) goes w (start .args .n) k (loop .inv) (few (c .before .before .before .before .before .before .before .before .before .before .before .before .before .before .before .before .skippable .result) (c .before .before .before .before .before .before .before .before .before .before .before .before .before .before .before .before .before .before .before .before .before .before .loop .now .side .beam .cycle) (c .before .before .before .before .before .before .before .before .before .before .before .before .before .before .before .before .before .before .before .before .before .before .loop .i) (c .before .before .before .before .before .before .before .before .before .before .before .before .before .before .before .before .before .before .before .before .before .before .before .before .before .before .before .before .before .before .args .n) count (c .before .before .before .before .before .before .before .before .before .before .before .before .before .before .before .before .before .before .before .before .before .loop-test .taken))
+    (may (start .args .regs) (loop .now) now (c .before .before .before .before .before .before .before .before .before .before .before .before .before .before .before .before .skippable .result) (loop .i) (start .args .n) refl refl (c .before .before .before .before .before .before .before .before .before .before .before .before .before .before .before .before .skippable .ensures) count)
+    (rw (c .before .before .before .before .before .before .before .before .before .before .before .before .before .before .leap .ensures) at (inner .ensures .0)) (rw (c .before .before .before .before .before .before .before .before .before .before .before .before .before .before .leap .ensures) at (inner .ensures .1))
     (inner .kept .1 .1 .0) (inner .kept .1 .1 .1 .0) (inner .kept .1 .1 .1 .1 .0) (inner .kept .1 .1 .1 .1 .1 .0)
 
 same-length-5 : tie.Need-same-length-5 Inv-loop μ-loop

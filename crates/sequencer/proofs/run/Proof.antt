@@ -5,6 +5,8 @@ use borrow.Author.Needs.{needs}
 use borrow.Author.Tests.{not-true, not-false}
 use Rattle.laws.proofs.Signs.{back64}
 use Rattle.memory.specs.Lent.{host}
+use Rattle.access.specs.Machinery.Noted.{readsIn}
+use Rattle.access.proofs.Back.{none-noted}
 use Rattle.sequencer.specs.World.{world}
 use Rattle.sequencer.proofs.Runs.{Going, begun, ready, no-more, all-done}
 use Rattle.sequencer.proofs.Staged.{carried}
@@ -12,15 +14,15 @@ use Rattle.sequencer.proofs.run.Statement.{statement}
 use Rattle.sequencer.proofs.run.Tie as tie
 
 abbrev Inv-loop : tie.InvT-loop
-Inv-loop regs matrix₀ pointers₀ bytes₀ words₀ ram rom colour bank n now₀ i₀ matrix pointers bytes words now i =
-    Going (host ram rom colour bank) regs (world now₀ matrix₀ pointers₀ bytes₀ words₀) n (world now matrix pointers bytes words) i
+Inv-loop regs matrix₀ pointers₀ bytes₀ words₀ ram rom colour bank n now₀ noted₀ i₀ matrix pointers bytes words now noted i =
+    Going (host ram rom colour bank) regs (world now₀ matrix₀ pointers₀ bytes₀ words₀) n (world now matrix pointers bytes words) i (readsIn noted)
 
 abbrev μ-loop : tie.MeasureT-loop
-μ-loop regs matrix₀ pointers₀ bytes₀ words₀ ram rom colour bank n now₀ i₀ matrix pointers bytes words now i =
+μ-loop regs matrix₀ pointers₀ bytes₀ words₀ ram rom colour bank n now₀ noted₀ i₀ matrix pointers bytes words now noted i =
     n - i
 
 loop-holds : tie.Need-loop-holds Inv-loop μ-loop
-loop-holds c = begun (host (c .before .before .before .before .before .before .before .args .ram .now) (c .before .before .before .before .before .before .before .args .rom .now) (c .before .before .before .before .before .before .before .args .colour .now) (c .before .before .before .before .before .before .before .args .bank)) (c .before .before .before .before .before .before .before .args .regs) (world (c .before .before .before .before .before .before .before .args .core) (c .before .before .before .before .before .before .before .args .matrix .now) (c .before .before .before .before .before .before .before .args .pointers .now) (c .before .before .before .before .before .before .before .args .bytes .now) (c .before .before .before .before .before .before .before .args .words .now)) (c .before .before .before .before .before .before .before .args .n) (c .before .before .before .before .before .before .before .pre)
+loop-holds c = begun (host (c .before .before .before .before .before .before .before .args .ram .now) (c .before .before .before .before .before .before .before .args .rom .now) (c .before .before .before .before .before .before .before .args .colour .now) (c .before .before .before .before .before .before .before .args .bank)) (c .before .before .before .before .before .before .before .args .regs) (world (c .before .before .before .before .before .before .before .args .core) (c .before .before .before .before .before .before .before .args .matrix .now) (c .before .before .before .before .before .before .before .args .pointers .now) (c .before .before .before .before .before .before .before .args .bytes .now) (c .before .before .before .before .before .before .before .args .words .now)) (c .before .before .before .before .before .before .before .args .n) none-noted (c .before .before .before .before .before .before .before .pre)
 
 can-tick-requires : tie.Need-can-tick-requires Inv-loop μ-loop
 can-tick-requires c κs = search needs
@@ -40,7 +42,7 @@ same-length-4 c = c .before .before .before .before .before .before .loop .inv .
 returns : tie.Need-returns Inv-loop μ-loop
 returns c =
     let t = rw (back64 (c .before .before .before .before .before .before .loop .now .side .bus .clock) (c .before .before .struct-told .given .0 .1)) at (c .before .can-tick .ensures) in
-    no-more (host (c .before .before .before .before .before .before .before .before .before .before .before .before .before .before .args .ram .now) (c .before .before .before .before .before .before .before .before .before .before .before .before .before .before .args .rom .now) (c .before .before .before .before .before .before .before .before .before .before .before .before .before .before .args .colour .now) (c .before .before .before .before .before .before .before .before .before .before .before .before .before .before .args .bank)) (c .before .before .before .before .before .before .before .before .before .before .before .before .before .before .args .regs) (world (c .before .before .before .before .before .before .before .before .before .before .before .before .before .before .args .core) (c .before .before .before .before .before .before .before .before .before .before .before .before .before .before .args .matrix .now) (c .before .before .before .before .before .before .before .before .before .before .before .before .before .before .args .pointers .now) (c .before .before .before .before .before .before .before .before .before .before .before .before .before .before .args .bytes .now) (c .before .before .before .before .before .before .before .before .before .before .before .before .before .before .args .words .now)) (c .before .before .before .before .before .before .before .before .before .before .before .before .before .before .args .n) (c .before .before .before .before .before .before .loop .inv) (c .before .before .before .before .before .loop-test .taken) (sym t ∙ not-true _ (c .if1 .taken))
+    rw none-noted (no-more (host (c .before .before .before .before .before .before .before .before .before .before .before .before .before .before .args .ram .now) (c .before .before .before .before .before .before .before .before .before .before .before .before .before .before .args .rom .now) (c .before .before .before .before .before .before .before .before .before .before .before .before .before .before .args .colour .now) (c .before .before .before .before .before .before .before .before .before .before .before .before .before .before .args .bank)) (c .before .before .before .before .before .before .before .before .before .before .before .before .before .before .args .regs) (world (c .before .before .before .before .before .before .before .before .before .before .before .before .before .before .args .core) (c .before .before .before .before .before .before .before .before .before .before .before .before .before .before .args .matrix .now) (c .before .before .before .before .before .before .before .before .before .before .before .before .before .before .args .pointers .now) (c .before .before .before .before .before .before .before .before .before .before .before .before .before .before .args .bytes .now) (c .before .before .before .before .before .before .before .before .before .before .before .before .before .before .args .words .now)) (c .before .before .before .before .before .before .before .before .before .before .before .before .before .before .args .n) (c .before .before .before .before .before .before .loop .inv) (c .before .before .before .before .before .loop-test .taken) (sym t ∙ not-true _ (c .if1 .taken)))
 
 sub-fitting : tie.Need-sub-fitting Inv-loop μ-loop
 sub-fitting c = omega (arith, c .before .before .before .before .before .loop-test .taken)
@@ -67,7 +69,7 @@ loop-less c =
     omega (arith, c .before .before .before .before .before .before .before .before .before .before .before .before .before .before .before .before .before .before .before .before .before .before .loop-test .taken, stage .moved refl (fitting .0), stage .within, fitting .1 .0)
 
 loop-again : tie.Need-loop-again Inv-loop μ-loop
-loop-again c = carried (c .before .before .before .before .before .before .before .before .before .before .before .before .before .before .before .before .before .before .before .before .before .before .before .loop .inv) (c .before .before .before .before .before .before .before .before .before .before .stage .ensures) (c .before .before .before .before .before .before .before .before .before .before .before .before .before .before .before .fitting .ensures .1 .0) (c .before .before .before .before .before .before .before .before .before .before .before .before .before .before .before .before .before .before .before .before .before .before .loop-test .taken)
+loop-again c = carried (c .before .before .before .before .before .before .before .before .before .before .before .before .before .before .before .before .before .before .before .before .before .before .before .loop .inv) (c .before .before .before .before .before .before .before .before .before .before .stage .ensures) (c .before .before .before .before .before .before .before .before .before .before .before .before .before .before .before .fitting .ensures .0) (c .before .before .before .before .before .before .before .before .before .before .before .before .before .before .before .fitting .ensures .1 .0) (c .before .before .before .before .before .before .before .before .before .before .before .before .before .before .before .before .before .before .before .before .before .before .loop-test .taken)
 
 same-length-5 : tie.Need-same-length-5 Inv-loop μ-loop
 same-length-5 c = c .before .loop .inv .held .forty ∙ sym (c .before .before .before .before .before .before .before .before .before .pre .forty)

@@ -8,7 +8,10 @@ use Rattle.laws.specs.Clock.{lastClock, inRange, canTick}
 use Rattle.memory.specs.Memory.{Lent}
 use Rattle.memory.specs.Lent.{Host, lentRefusal}
 use Rattle.registers.specs.declared.Registers.{Registers}
-use Rattle.chip.specs.Chip.{answer}
+use Rattle.access.specs.declared.Reads.{Reads}
+use Rattle.chip.specs.declared.Chip.{Chip}
+use Rattle.chip.specs.declared.Answer.{Answer}
+use Rattle.chip.specs.Chip.{reading}
 use Rattle.chip.specs.Accept.{accepted}
 use Rattle.sequencer.specs.World.{World, chipOf}
 use Rattle.sequencer.specs.Tick.{ticksFrom}
@@ -33,14 +36,18 @@ pub record Held (h : Host) (g : Registers) (w : World) : Type 0 where
   pub eightWords : length (w .words) ≡ 8
   pub fine : accepted (chipOf g w) ≡ true
 
+-- a run's answer, put together
+abbrev pub answered : ℕ → Chip → Reads → Answer
+answered n c r = record { refused = n; chip = c; reads = r }
+
 -- 01, States we accept: a clock that k ticks leave within its range
 abbrev pub Roomy : ℕ → ℤ → Type 0
 Roomy k (pos n) = n + 2 * k ≤ lastClock
 Roomy k (negsuc n) = ⊥
 
--- what a part does: some of at most n ticks, none of them refused, and at least one where it goes at all
-pub record Part (h : Host) (g : Registers) (n : ℕ) (goes : Bool) (w : World) (done : ℕ) (v : World) : Type 0 where
+-- what a part does: some of at most n ticks, none of them refused, and at least one where it goes at all; the reads are its last tick's, none before the first
+pub record Part (h : Host) (g : Registers) (n : ℕ) (goes : Bool) (w : World) (done : ℕ) (v : World) (reads : Reads) : Type 0 where
   pub within : done ≤ n
-  pub state : ticksFrom h done (chipOf g w) ≡ answer 0 (chipOf g v)
+  pub state : ticksFrom h done (chipOf g w) ≡ reading (chipOf g v) reads
   pub held : Held h g v
   pub moved : goes ≡ true → 0 < n → 0 < done

@@ -1,6 +1,6 @@
 use native.Mathlib.Omega.{arith}
 use Rattle.sheet.specs.Sheet.{textBy}
-use Rattle.sheet.proofs.Glue.{nothing}
+use Rattle.line.proofs.Copy.{nothing}
 use borrow.Author.Needs.{needs}
 use Rattle.sheet.proofs.told.Statement.{statement}
 use Rattle.sheet.proofs.told.Tie as tie

@@ -5,7 +5,7 @@ use lib.ListN.{length}
 use borrow.Author.Needs.{needs}
 use Rattle.driver.specs.Driver.{store}
 use Rattle.vcd.proofs.Short.{declarations-292}
-use Rattle.tape.proofs.Turns.{ahead}
+use Rattle.sheet.proofs.Drive.{ahead}
 use Rattle.tape.proofs.Blocks.{Prints, begins, begun-at, room-fits, stepped, step-less, run-is, store-is, ends}
 use Rattle.tape.proofs.print.Statement.{statement}
 use Rattle.tape.proofs.print.Tie as tie

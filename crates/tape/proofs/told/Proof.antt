@@ -1,6 +1,6 @@
 use Rattle.vcd.proofs.Short.{refusal-at-most-34}
 use native.Mathlib.Omega.{arith}
-use Rattle.vcd.proofs.Copy.{nothing}
+use Rattle.line.proofs.Copy.{nothing}
 use Rattle.tape.specs.Machinery.Tape.{textBy, waveBy}
 use borrow.Author.Needs.{needs}
 use Rattle.tape.proofs.told.Statement.{statement}

@@ -9,7 +9,7 @@ use Rattle.vcd.proofs.Digits.{one-digit, more-digits, some-more}
 use Rattle.vcd.proofs.binary.Reads as binary
 use Rattle.vcd.proofs.binary.Kinds as binary-kinds
 use Rattle.vcd.proofs.+binary.Lts-binary as binary-lts
-use Rattle.vcd.proofs.byte.Reads as byte-reads
+use Rattle.line.proofs.byte.Reads as byte-reads
 use Rattle.vcd.proofs.+binary.{statement}
 use Rattle.vcd.proofs.+binary.Tie.{close}
 

@@ -9,7 +9,7 @@ use Rattle.vcd.proofs.Digits.{one-digit, more-digits, some-more}
 use Rattle.vcd.proofs.decimal.Reads as decimal
 use Rattle.vcd.proofs.decimal.Kinds as decimal-kinds
 use Rattle.vcd.proofs.+decimal.Lts-decimal as decimal-lts
-use Rattle.vcd.proofs.byte.Reads as byte-reads
+use Rattle.line.proofs.byte.Reads as byte-reads
 use Rattle.vcd.proofs.+decimal.{statement}
 use Rattle.vcd.proofs.+decimal.Tie.{close}
 

@@ -1,4 +1,5 @@
-use Rattle.vcd.specs.Text.{ascii, declarations}
+use Rattle.line.specs.Text.{ascii}
+use Rattle.vcd.specs.Text.{declarations}
 use borrow.Author.Needs.{needs}
 use Rattle.vcd.proofs.declare.Statement.{statement}
 use Rattle.vcd.proofs.declare.Tie as tie

@@ -1,7 +1,8 @@
 use mathlib.Core.Path.{sym}
 use native.Mathlib.Omega.{arith}
 use Rattle.line.proofs.Join.{on, named-as}
-use Rattle.vcd.specs.Text.{ascii, firstText}
+use Rattle.line.specs.Text.{ascii}
+use Rattle.vcd.specs.Text.{firstText}
 use Rattle.vcd.proofs.Pieces.{all-values}
 use borrow.Author.Needs.{needs}
 use Rattle.vcd.proofs.first.Statement.{statement}

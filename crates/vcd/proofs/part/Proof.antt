@@ -1,6 +1,6 @@
 use native.Mathlib.Omega.{arith}
 use Rattle.line.proofs.Join.{named-as}
-use Rattle.vcd.proofs.Copy.{nothing}
+use Rattle.line.proofs.Copy.{nothing}
 use Rattle.vcd.specs.Machinery.Steps.{partText}
 use borrow.Author.Needs.{needs}
 use Rattle.vcd.proofs.part.Statement.{statement}

@@ -1,8 +1,8 @@
 use Rattle.vcd.proofs.Copy.{apart}
 use mathlib.Core.Path.{ap, sym}
 use Rattle.line.proofs.Join.{on, named-as}
-use Rattle.line.specs.Text.{textOf}
-use Rattle.vcd.specs.Text.{ascii, refusalText}
+use Rattle.line.specs.Text.{ascii, textOf}
+use Rattle.vcd.specs.Text.{refusalText}
 use borrow.Author.Needs.{needs}
 use Rattle.vcd.proofs.refused.Statement.{statement}
 use Rattle.vcd.proofs.refused.Tie as tie

@@ -3,10 +3,10 @@ use mathlib.Core.Path.{_≡_}
 use native.Mathlib.Omega.{arith}
 use lib.ListN.{length, take, length-set}
 use borrow.Author.Needs.{needs}
 use Rattle.line.specs.Text.{Written}
-use Rattle.vcd.proofs.Copy.{none-yet, one-more, all-there}
-use Rattle.vcd.proofs.text.Statement.{statement}
-use Rattle.vcd.proofs.text.Tie as tie
+use Rattle.line.proofs.Copy.{none-yet, one-more, all-there}
+use Rattle.line.proofs.text.Statement.{statement}
+use Rattle.line.proofs.text.Tie as tie
 
 abbrev Inv-loop : tie.InvT-loop
 Inv-loop out₀ at words i₀ out i =

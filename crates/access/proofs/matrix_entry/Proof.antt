@@ -1,7 +1,7 @@
-use Rattle.access.specs.Matrix.{matrixWord}
+use Rattle.access.specs.Matrix.{matrixEntry}
 use borrow.Author.Needs.{needs}
-use Rattle.access.proofs.matrix_word.Statement.{statement}
-use Rattle.access.proofs.matrix_word.Tie as tie
+use Rattle.access.proofs.matrix_entry.Statement.{statement}
+use Rattle.access.proofs.matrix_entry.Tie as tie
 
 wide-requires : tie.Need-wide-requires
 wide-requires c κs = search needs
@@ -24,21 +24,21 @@ shared-slice-read-wide c = search needs
 wide-requires-2 : tie.Need-wide-requires-2
 wide-requires-2 c κs = search needs
 
-mul-result : tie.Need-mul-result
-mul-result c = search needs
+mul-word : tie.Need-mul-word
+mul-word c = search needs
 
 wide-requires-3 : tie.Need-wide-requires-3
 wide-requires-3 c κs = search needs
 
-add-result : tie.Need-add-result
-add-result c = search needs
+add-word : tie.Need-add-word
+add-word c = search needs
 
 returns : tie.Need-returns
-unfolding matrixWord
+unfolding matrixEntry
 returns c = simp (c .wide3 .ensures, c .before .wide2 .ensures, c .before .before .before .read .ensures, c .before .before .before .before .wide .ensures)
 
-pub matrix-word-spec : {M : Type 1} → statement M
-matrix-word-spec =
+pub matrix-entry-spec : {M : Type 1} → statement M
+matrix-entry-spec =
     tie.close
     (tie.spec
     wide-requires
@@ -48,7 +48,7 @@ matrix-word-spec =
     cast-at
     shared-slice-read-wide
     wide-requires-2
-    mul-result
+    mul-word
     wide-requires-3
-    add-result
+    add-word
     returns)

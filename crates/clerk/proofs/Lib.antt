@@ -1,0 +1,3 @@
+pub mod Glue
+pub mod Turns
+pub mod Blocks
