@@ -217,7 +217,7 @@ pub fn make(seed: u64, count: u64, output: &str, only: Option<u8>) -> io::Result
     }
     output.flush()?;
     if !maker.original.records().agree() {
-        return Err(io::Error::other("a run from power-up left the original's DMA mask and flags apart"));
+        return Err(io::Error::other("a run from power-up left the original's DMA mask and flags apart, or read what the table of reads has not"));
     }
     Ok(maker.apart)
 }

@@ -4,6 +4,7 @@ use crate::kind::MOS6569;
 use crate::late::Met;
 use crate::memory::Memory;
 use crate::model::Model;
+use crate::reads::Reads;
 use crate::scene::State;
 use crate::vic::glue::Machine;
 
@@ -16,20 +17,28 @@ pub const CLOCK_AT_END: Refusal = 4;
 pub const COMPARE_ABOVE_511: Refusal = 5;
 pub const UNKNOWN_KIND: Refusal = 12;
 
-/// The original says twice that a sprite fetches, and a state says it once: what was found of the two after its calls.
+/// What was found of the original where it says more than an answer, or less. It says twice that a sprite fetches, and a state says it
+/// once: after how many calls the two were looked at, and apart. It does not say why it reads: in how many ticks its reads were traced,
+/// and were not those of the table that has the reasons.
 #[derive(Clone, Copy, Default)]
 pub struct Records {
     pub looked: u64,
     pub apart: u64,
+    pub traced: u64,
+    pub other: u64,
 }
 
 impl Records {
-    /// False where the two were apart after a call: what the original has then, no state says. A line on standard error tells of it.
+    /// False where the two were apart after a call, and where reads were not the table's: what the original has then, no answer says. A
+    /// line on standard error tells of it.
     pub fn agree(self) -> bool {
         if self.apart > 0 {
             eprintln!("the original's DMA mask and flags are apart after {} of {} calls", self.apart, self.looked);
         }
-        self.apart == 0
+        if self.other > 0 {
+            eprintln!("the original's reads are not the table's in {} of {} ticks", self.other, self.traced);
+        }
+        self.apart == 0 && self.other == 0
     }
 }
 
@@ -42,6 +51,8 @@ pub trait Chip {
 
     fn power_up(&mut self, kind: u8);
     fn tick(&mut self) -> Result<(), Refusal>;
+    /// What the last tick that was taken read (02 (viii)).
+    fn reads(&self) -> Reads;
     /// A register by any address, as the chip's own file takes it; Y-expand is not among them.
     fn write_file(&mut self, address: u16, value: u8);
     fn write_y_expand(&mut self, value: u8);
@@ -69,8 +80,8 @@ pub trait Chip {
         0
     }
 
-    /// After how many calls the chip was looked at for two records of sprite DMA, and after how many they were apart (02 (ix)). A chip with
-    /// one record has none.
+    /// After how many calls the chip was looked at for two records of sprite DMA (02 (ix)), and in how many ticks its reads were traced. A
+    /// chip of ours has one record, and its own reasons.
     fn records(&self) -> Records {
         Records::default()
     }

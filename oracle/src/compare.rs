@@ -2,18 +2,23 @@
 
 use crate::kind::{known, MOS6567R8, MOS6569};
 use crate::late::{is_late, MOVED};
-use crate::replay::{called, fill, open, Case, ANSWER, CASE, MEMORIES, TICK};
+use crate::replay::{called, fill, open, Case, AFTER, ANSWER, CASE, MEMORIES, READS, TICK};
 use crate::scene::{fields, Field, Sort, State};
 use std::io::{self, Read};
 
 /// How many differing cases are shown in full.
 const SHOWN: u64 = 10;
 
-/// The answer's own two fields, the head, and the scene's, with places counted from the answer's start.
+/// The answer's own fields, the head, and the scene's, with places counted from the answer's start.
 fn table() -> Vec<Field> {
     let own = |name: &str, offset, size| Field { name: name.into(), offset, size, sort: Sort::Number };
-    let mut table = vec![own("refusal", 0, 1), own("answer", 1, 2), own("head", 3, 4)];
-    table.extend(fields().into_iter().map(|field| Field { offset: field.offset + 3, ..field }));
+    let mut table = vec![own("refusal", 0, 1), own("answer", 1, 2)];
+    for (number, place) in [("first", READS), ("second", READS + 3)] {
+        table.push(own(&format!("{number} read's reason"), place, 1));
+        table.push(own(&format!("{number} read's address"), place + 1, 2));
+    }
+    table.push(own("head", AFTER, 4));
+    table.extend(fields().into_iter().map(|field| Field { offset: field.offset + AFTER, ..field }));
     table
 }
 
@@ -110,12 +115,12 @@ fn family(field: &Field) -> &str {
     field.name.trim_end_matches(|c: char| c.is_ascii_digit()).trim_end()
 }
 
-/// Where the field is in a scene; the first two are the answer's own.
+/// Where the field is in a scene; the first ones are the answer's own.
 fn place(field: &Field) -> String {
-    if field.offset < 3 {
+    if field.offset < AFTER {
         String::new()
     } else {
-        format!(" (scene byte {})", field.offset - 3)
+        format!(" (scene byte {})", field.offset - AFTER)
     }
 }
 

@@ -20,7 +20,7 @@ pub fn is_late(s: &State) -> bool {
 }
 
 /// What a late DEN can move in one tick: the latch, the bad line and BA, who has the bus, the rows, and the matrix and graphics
-/// bytes that go by them. `compare-replay` takes any other field that differs for a fault.
+/// bytes that go by them, with the reads that they are. `compare-replay` takes any other field that differs for a fault.
 pub const MOVED: &[&str] = &[
     "DEN latch",
     "bad line",
@@ -41,10 +41,14 @@ pub const MOVED: &[&str] = &[
     "character fetched",
     "carry",
     "graphics byte",
+    "first read's reason",
+    "first read's address",
+    "second read's reason",
+    "second read's address",
 ];
 
-/// What a run met: its ticks, those that found DEN late, and the first of them, counted from 0; and what its chip's records of sprite
-/// DMA were.
+/// What a run met: its ticks, those that found DEN late, and the first of them, counted from 0; and what was found of its chip's records
+/// of sprite DMA and its reads.
 #[derive(Default)]
 pub struct Met {
     pub ticks: u64,
@@ -63,7 +67,7 @@ impl Met {
         self.ticks += 1;
     }
 
-    /// A line on standard error where there was one. False where the records of sprite DMA were apart.
+    /// A line on standard error where there was one. False where the records of sprite DMA were apart, or reads not the table's.
     pub fn tell(&self) -> bool {
         if let Some(first) = self.first {
             eprintln!("{} ticks, DEN late in {}, first in {first}", self.ticks, self.late);

@@ -3,6 +3,7 @@
 
 mod accept;
 mod ask;
+mod bus;
 mod cases;
 mod chart;
 mod check;
@@ -17,6 +18,7 @@ mod model;
 mod pace;
 mod pla;
 mod play;
+mod reads;
 mod replay;
 mod rng;
 mod runs;
@@ -47,6 +49,7 @@ or with --kind 6569 or --kind 6567R8 for one kind of chip:
   oracle sample-run SEED OUTFILE         make a run file of one frame and a little more
   oracle chart < FILE > OUT              chart a run file
   oracle dump < FILE > OUT               dump a run file's ticks
+  oracle bus < FILE > OUT                tell what a run file's ticks read
   oracle questions SEED DIR              make questions for ask, a file for each part
   oracle sample-questions SEED OUTFILE   make the few questions that the test asks
   oracle ask INFILE OUTFILE              answer questions
@@ -122,6 +125,14 @@ fn run(arguments: &[&str]) -> io::Result<Option<bool>> {
             let met = match kind {
                 MOS6569 => dump::dump(&given()?, &mut output, |memory| Machine::judging(memory, alone))?,
                 _ => dump::dump(&given()?, &mut output, |memory| Model::new(memory, kind))?,
+            };
+            output.flush().map(|()| met.tell())
+        }
+        ["bus"] => {
+            let mut output = BufWriter::new(io::stdout().lock());
+            let met = match kind {
+                MOS6569 => bus::bus(&given()?, &mut output, |memory| Machine::judging(memory, alone))?,
+                _ => bus::bus(&given()?, &mut output, |memory| Model::new(memory, kind))?,
             };
             output.flush().map(|()| met.tell())
         }

@@ -3,6 +3,8 @@
 //! The original's own `memory/constants.rs` can't be compiled: it includes ROM images that are not
 //! part of the text. Only the two regions that the chip's fetches can meet are kept.
 
+use crate::reads::{Trace, LINES};
+
 pub mod constants {
     #[derive(Debug, Clone, Copy, PartialEq, Eq)]
     pub enum MapRegion {
@@ -36,6 +38,8 @@ pub struct Memory {
     pub colour: Box<[u8; COLOUR]>,
     pub bank: u8,
     pub cartridge: Cartridge,
+    /// What was read since a tick's begin (02 (viii)).
+    pub trace: Trace,
 }
 
 impl Memory {
@@ -46,6 +50,7 @@ impl Memory {
             colour: Box::new([0; COLOUR]),
             bank: 0,
             cartridge: Cartridge { configuration: Configuration { phi1_mode: Phi1Mode } },
+            trace: Trace::default(),
         }
     }
 
@@ -56,7 +61,11 @@ impl Memory {
     /// docs/SCOPE.md, "Memory". The clock is for a bus latch that is not kept.
     pub fn vic_read(&mut self, address: u16, bank: u8, _clock: u64) -> u8 {
         // The chip has fourteen address lines; one caller does not mask them itself.
-        let address = address & 0x3FFF;
+        let address = address & LINES;
+        // The build for a clock traces nothing.
+        if cfg!(debug_assertions) {
+            self.trace.note(address);
+        }
         match crate::pla::map_vic_addr(address, bank as usize, Phi1Mode) {
             constants::MapRegion::Char => self.rom[address as usize & 0x0FFF],
             constants::MapRegion::Ram => self.ram[address as usize],

@@ -11,6 +11,7 @@ use crate::kind::{column, Column, Slot};
 use crate::memory::constants::MapRegion;
 use crate::memory::{Memory, Phi1Mode};
 use crate::pla::map_vic_addr;
+use crate::reads::{Reads, Reason};
 use crate::scene::State;
 
 const DEN: u8 = 0x10;
@@ -32,16 +33,19 @@ const IDLE: u16 = 0x3FFF;
 pub struct Model {
     s: State,
     memory: Memory,
+    /// What the last tick read.
+    reads: Reads,
 }
 
 impl Model {
     /// A chip at power-up, with this memory.
     pub fn new(memory: Memory, kind: u8) -> Self {
-        Self { s: powered(kind), memory }
+        Self { s: powered(kind), memory, reads: Reads::default() }
     }
 
     /// One accepted tick.
     fn turn(&mut self, column: Column) {
+        self.reads = Reads::default();
         let s = &mut self.s;
         s.clock += 2;
         s.den = s.ctrl1 & DEN != 0;
@@ -72,6 +76,7 @@ impl Model {
             self.slot(column);
         }
         self.rows();
+        self.hole();
         let s = &mut self.s;
         // 3.9, rules 2 and 3, number 63 for the 6569.
         if s.cycle == column.last_cycle {
@@ -85,7 +90,8 @@ impl Model {
         s.irq_changed = s.irq_line;
     }
 
-    fn read(&mut self, address: u16) -> u8 {
+    fn read(&mut self, reason: Reason, address: u16) -> u8 {
+        self.reads.add((reason, address));
         let bank = self.memory.bank;
         self.memory.vic_read(address, bank, 0)
     }
@@ -98,7 +104,7 @@ impl Model {
     fn slot(&mut self, column: Column) {
         match column.slot(self.s.cycle) {
             Some(Slot::Pointer(k)) => {
-                self.s.sprites[k].pointer = self.read(matrix(&self.s) + 0x3F8 + k as u16);
+                self.s.sprites[k].pointer = self.read(Reason::Pointer, matrix(&self.s) + 0x3F8 + k as u16);
                 self.sprite_byte(k, 2);
             }
             Some(Slot::Data(k)) => {
@@ -117,10 +123,18 @@ impl Model {
         let sprite = self.s.sprites[k];
         // With DMA only sprite 0's first byte wants AEC; without, phase 1 is the chip's own.
         let wants_aec = if on { (k, n) == (0, 2) } else { n != 1 };
-        let address = if on { u16::from(sprite.pointer) * 64 + u16::from(sprite.mc) } else { IDLE };
-        self.s.sprites[k].bytes[n] = if wants_aec && !self.s.aec_low { 0xFF } else { self.read(address) };
+        let (reason, address) = if on { (Reason::Sprite, u16::from(sprite.pointer) * 64 + u16::from(sprite.mc)) } else { (Reason::Idle, IDLE) };
+        self.s.sprites[k].bytes[n] = if wants_aec && !self.s.aec_low { 0xFF } else { self.read(reason, address) };
         if on {
             self.s.sprites[k].mc = (sprite.mc + 1) % 64;
+        }
+    }
+
+    /// 02 (viii) and (xiv): phase 1 is the chip's own in every cycle. Where no other access has it, and the refresh of 11 to 15 has not, it
+    /// reads for nothing. A slot always reads.
+    fn hole(&mut self) {
+        if self.reads.is_empty() && !(11..=15).contains(&self.s.cycle) {
+            self.read(Reason::Idle, IDLE);
         }
     }
 
@@ -169,7 +183,7 @@ impl Model {
         let (place, vc) = (self.s.vmli, self.s.vc);
         if self.s.aec_counter < 0 {
             let colour = self.memory.colour[usize::from(vc)] & 0x0F;
-            let code = self.read(matrix(&self.s) + vc);
+            let code = self.read(Reason::Matrix, matrix(&self.s) + vc);
             self.s.matrix.0[usize::from(place)] = u16::from_be_bytes([colour, code]);
         } else {
             self.s.pending = Some(place);
@@ -185,7 +199,7 @@ impl Model {
             latch(&mut self.s);
         }
         let address = self.graphics_address();
-        self.s.graphics = self.read(address);
+        self.s.graphics = self.read(Reason::Graphics, address);
         self.s.vc = (self.s.vc + 1) % 1024;
         self.s.vmli += 1;
     }
@@ -205,7 +219,7 @@ impl Model {
             IDLE
         };
         s.entering = false;
-        self.s.graphics = self.read(address);
+        self.s.graphics = self.read(Reason::Idle, address);
     }
 
     /// 3.7.3; where BMM or ECM has just fallen, departure 11.
@@ -505,6 +519,10 @@ impl Chip for Model {
         }
         self.turn(column(self.s.kind));
         Ok(())
+    }
+
+    fn reads(&self) -> Reads {
+        self.reads
     }
 
     fn write_file(&mut self, address: u16, value: u8) {

@@ -3,13 +3,17 @@
 use crate::chip::{Chip, Judges, Refusal};
 use crate::kind::MOS6569;
 use crate::memory::{Memory, COLOUR, RAM, ROM};
+use crate::reads::Reads;
 use crate::scene::{State, SCENE};
 use std::fs::File;
 use std::io::{self, BufReader, BufWriter, Read, Write};
 
 pub const MEMORIES: usize = RAM + ROM + COLOUR;
 pub const CASE: usize = 6 + SCENE;
-pub const ANSWER: usize = 3 + SCENE;
+/// Where an answer has a tick's reads, and where the scene afterwards.
+pub const READS: usize = 3;
+pub const AFTER: usize = READS + 6;
+pub const ANSWER: usize = AFTER + SCENE;
 
 pub const TICK: u8 = 0;
 pub const WRITE: u8 = 1;
@@ -124,21 +128,24 @@ pub fn perform(chip: &mut dyn Chip, case: &Case) -> Result<u16, Refusal> {
     }
 }
 
-/// The 312 bytes that a case is answered with.
+/// The 318 bytes that a case is answered with.
 pub fn answer_case(chip: &mut dyn Chip, case: &Case) -> [u8; ANSWER] {
     let (refusal, value) = match perform(chip, case) {
         Ok(value) => (0, value),
         Err(refusal) => (refusal, 0),
     };
+    // Only a tick reads, and one that is refused does not (02 (viii)).
+    let reads = if case.call == TICK && refusal == 0 { chip.reads() } else { Reads::default() };
     let mut bytes = [0; ANSWER];
     bytes[0] = refusal;
-    bytes[1..3].copy_from_slice(&value.to_le_bytes());
-    bytes[3..].copy_from_slice(&chip.state().encode());
+    bytes[1..READS].copy_from_slice(&value.to_le_bytes());
+    bytes[READS..AFTER].copy_from_slice(&reads.encode());
+    bytes[AFTER..].copy_from_slice(&chip.state().encode());
     bytes
 }
 
 /// Answers a file of cases, as far as they go, each by the judge of its kind. The original alone has no answer to another kind. False
-/// where a call leaves the original's two records of sprite DMA apart.
+/// where a call leaves the original's two records of sprite DMA apart, or its reads are not the table's.
 pub fn answer(input: &str, output: &str, alone: bool) -> io::Result<bool> {
     let mut input = open(input)?;
     let mut output = create(output)?;
@@ -170,7 +177,10 @@ pub fn answer(input: &str, output: &str, alone: bool) -> io::Result<bool> {
     }
     output.flush()?;
     let records = judges.original.records();
-    eprintln!("{count} cases answered; the original's DMA mask and flags looked at after {} calls", records.looked);
+    eprintln!(
+        "{count} cases answered; the original's DMA mask and flags looked at after {} calls, its reads traced in {} ticks",
+        records.looked, records.traced
+    );
     Ok(records.agree())
 }
 

@@ -2,6 +2,7 @@
 
 use crate::accept::{accepted, CLOCK_LIMIT};
 use crate::ask::{mask_at, panics};
+use crate::bus::bus;
 use crate::chart::chart;
 use crate::chip::{Chip, Refusal};
 use crate::dump::dump;
@@ -9,7 +10,8 @@ use crate::kind::{column, Slot, MOS6567R8, MOS6569, NTSC, PAL, UNKNOWN};
 use crate::late::is_late;
 use crate::memory::Memory;
 use crate::model::{powered, Model};
-use crate::replay::{answer_case, Case, LATE_BYTE, TICK};
+use crate::reads::{Reads, Reason};
+use crate::replay::{answer_case, Case, AFTER, LATE_BYTE, OTHERS, READS, TICK};
 use crate::rng::Rng;
 use crate::scene::{fields, flag_at, renewed, Sort, State, SCENE};
 use crate::states::{accepted_state, wild_state};
@@ -35,6 +37,10 @@ const CHECKS: &[Check] = &[
     ("a late DEN, and the stand-in of it", the_late_den),
     ("the original's two records of sprite DMA", the_two_records),
     ("the writes of $D011 and $D016", the_control_writes),
+    ("what a tick reads", the_reads),
+    ("what a tick reads: the original's trace by the table", the_trace),
+    ("what a tick reads: answers, and the text of bus", the_told_reads),
+    ("what a tick reads: the 6567R8", the_reads_of_the_6567r8),
     ("the 6567R8: its line, its frame and its slots", the_column),
     ("the 6567R8: power-up, and what is refused", the_kinds),
     ("the 6567R8: what goes with sprite 0's slot", the_first_slot),
@@ -300,7 +306,7 @@ fn the_twelve() -> bool {
         change(&mut state);
         let bytes = answer_case(&mut machine, &Case { call: TICK, bank: 0, arguments: [0; 4], state });
         assert_eq!(bytes[0], 0, "the tick is taken");
-        State::decode(&bytes[3..]).expect("an answer holds a scene")
+        State::decode(&bytes[AFTER..]).expect("an answer holds a scene")
     };
     let bad_lines = VicTiming::compute_is_badline(0x30, 0, true)
         && !VicTiming::compute_is_badline(0x2F, 7, true)
@@ -335,7 +341,7 @@ fn the_twelve() -> bool {
     let mut state = machine.state();
     state.pending = Some(5);
     let bytes = answer_case(&mut machine, &Case { call: LATE_BYTE, bank: 0, arguments: [0xA7, 0, 0, 0], state });
-    let late = State::decode(&bytes[3..]).expect("an answer holds a scene");
+    let late = State::decode(&bytes[AFTER..]).expect("an answer holds a scene");
 
     bad_lines
         && masks
@@ -493,6 +499,200 @@ fn the_control_writes() -> bool {
         && line_0(&mut Machine::new(Memory::new()), 0x37)
         && line_0(&mut Model::new(Memory::new(), MOS6569), 0x37)
         && line_0(&mut Model::new(Memory::new(), MOS6567R8), 0x06)
+}
+
+/// A state from which a tick gets to this cycle: the matrix at 0x0400, the characters at 0x1000, every MC and MC base 9, and the pointers
+/// that `pictured` has.
+fn before(kind: u8, cycle: u16) -> State {
+    let last = column(kind).last_cycle;
+    let mut s = State { cycle: if cycle == 1 { last } else { cycle - 1 }, raster: 100, memory_pointers: 0x14, ..powered(kind) };
+    for (k, sprite) in s.sprites.iter_mut().enumerate() {
+        (sprite.pointer, sprite.mc, sprite.base) = (0x80 + k as u8, 9, 9);
+    }
+    s
+}
+
+/// Pointers of a matrix at 0x0400: sprite k's data begins at 0x2000 + 0x40 * k.
+fn pictured() -> Memory {
+    let mut memory = Memory::new();
+    (0..8).for_each(|k| memory.ram[0x7F8 + k] = 0x80 + k as u8);
+    memory
+}
+
+/// The reads of one tick.
+fn read_by(chip: &mut dyn Chip, state: &State) -> Reads {
+    chip.load(state);
+    chip.tick().expect("the tick is taken");
+    chip.reads()
+}
+
+/// AEC as the last tick left it, and a bus that the CPU has lost.
+fn aec_low(s: &mut State) {
+    (s.ba_low, s.aec_low, s.aec_counter) = (true, true, -1);
+}
+
+/// A line of text in row 2, with the first character next, whose code is 0x23.
+fn text_line(s: &mut State) {
+    (s.displaying, s.output_disabled, s.vc, s.rc) = (true, false, 0x28, 2);
+    s.matrix.0[0] = 0x0123;
+}
+
+/// The same on a bad line, with the accesses on.
+fn text_bad_line(s: &mut State) {
+    text_line(s);
+    (s.raster, s.ctrl1, s.den_latch, s.bad_line, s.accessing) = (0x33, 0x13, true, true, true);
+}
+
+type Change = fn(&mut State);
+
+/// Ticks into a cycle of the 6569, from the state above with a change, and what each reads: the table of 02 (viii), worked out by hand.
+const READ: &[(u16, Change, &[(Reason, u16)])] = &[
+    // Pointer slots: with DMA the byte whatever AEC is, but for sprite 0's; without it only with AEC low.
+    (60, |_| {}, &[(Reason::Pointer, 0x07F9)]),
+    (60, aec_low, &[(Reason::Pointer, 0x07F9), (Reason::Idle, 0x3FFF)]),
+    (60, |s| s.dma = 2, &[(Reason::Pointer, 0x07F9), (Reason::Sprite, 0x2049)]),
+    (62, |s| (s.dma, s.sprites[2].mc) = (4, 63), &[(Reason::Pointer, 0x07FA), (Reason::Sprite, 0x20BF)]),
+    (9, |s| (s.dma, s.memory_pointers) = (0x7F, 0xF0), &[(Reason::Pointer, 0x3FFF)]),
+    (58, |_| {}, &[(Reason::Pointer, 0x07F8)]),
+    (58, |s| s.dma = 1, &[(Reason::Pointer, 0x07F8)]),
+    (58, |s| (s.dma, s.aec_counter) = (1, 0), &[(Reason::Pointer, 0x07F8), (Reason::Sprite, 0x2009)]),
+    (58, |s| (s.dma, s.aec_counter) = (2, 0), &[(Reason::Pointer, 0x07F8), (Reason::Idle, 0x3FFF)]),
+    // Data slots: byte 1 and then byte 0, and the pointer that the sprite has.
+    (59, |_| {}, &[(Reason::Idle, 0x3FFF)]),
+    (59, aec_low, &[(Reason::Idle, 0x3FFF), (Reason::Idle, 0x3FFF)]),
+    (59, |s| s.dma = 1, &[(Reason::Sprite, 0x2009), (Reason::Sprite, 0x200A)]),
+    (10, |s| (s.dma, s.sprites[7].mc, s.sprites[7].pointer) = (0x80, 63, 0xFF), &[(Reason::Sprite, 0x3FFF), (Reason::Sprite, 0x3FC0)]),
+    // The AEC flag of the last tick in 3 and on, this tick's in 1 and 2: without DMA the arbitration takes it away.
+    (1, aec_low, &[(Reason::Pointer, 0x07FB)]),
+    (2, aec_low, &[(Reason::Idle, 0x3FFF)]),
+    (3, aec_low, &[(Reason::Pointer, 0x07FC), (Reason::Idle, 0x3FFF)]),
+    (1, |s| (s.dma, s.aec_counter) = (0x10, 0), &[(Reason::Pointer, 0x07FB), (Reason::Idle, 0x3FFF)]),
+    (3, |s| (s.dma, s.aec_counter) = (0x20, 0), &[(Reason::Pointer, 0x07FC)]),
+    // Refresh is not told yet.
+    (11, aec_low, &[]),
+    (14, |s| s.dma = 0xFF, &[]),
+    (15, |_| {}, &[]),
+    // The first matrix access, from the line's own VC, and one that waits for the CPU's byte.
+    (15, |s| (text_bad_line(s), aec_low(s), s.vc = 0x155).0, &[(Reason::Matrix, 0x0555)]),
+    (15, text_bad_line, &[]),
+    (15, |s| (text_line(s), aec_low(s), s.accessing = true).0, &[]),
+    // Display, and with it the next matrix access.
+    (20, text_line, &[(Reason::Graphics, 0x111A)]),
+    (20, |s| (text_bad_line(s), aec_low(s)).0, &[(Reason::Graphics, 0x111A), (Reason::Matrix, 0x0429)]),
+    (20, text_bad_line, &[(Reason::Graphics, 0x111A)]),
+    (54, |s| (text_bad_line(s), aec_low(s), s.vc = 1023).0, &[(Reason::Graphics, 0x111A), (Reason::Matrix, 0x0400)]),
+    (55, |s| (text_bad_line(s), aec_low(s)).0, &[(Reason::Graphics, 0x111A)]),
+    // A bitmap, and the first tick after BMM fell.
+    (20, |s| (text_line(s), s.ctrl1 = 0x20, s.previous_mode = 2).0, &[(Reason::Graphics, 0x0142)]),
+    (20, |s| (text_line(s), s.previous_mode = 2, s.memory_pointers = 0x1A).0, &[(Reason::Graphics, 0x2142)]),
+    // Idle: the state, by ECM, and a transition that is pending, before the forced clock's cycle and in it.
+    (20, |_| {}, &[(Reason::Idle, 0x3FFF)]),
+    (55, |s| s.previous_mode = 4, &[(Reason::Idle, 0x39FF)]),
+    (20, |s| (text_line(s), s.entering = true).0, &[(Reason::Idle, 0x3FFF)]),
+    (18, |s| (text_line(s), s.entering = true, s.clock = 98, s.forced_clock = 100).0, &[(Reason::Idle, 0x38FF)]),
+    (17, |s| (text_line(s), s.entering = true, s.clock = 98, s.forced_clock = 100).0, &[(Reason::Idle, 0x3FFF)]),
+    // Nothing to do, whatever there was to do before.
+    (56, |s| (text_bad_line(s), aec_low(s), s.dma = 0xFF).0, &[(Reason::Idle, 0x3FFF)]),
+    (57, |s| s.previous_mode = 4, &[(Reason::Idle, 0x3FFF)]),
+];
+
+/// The list above, on the original and on the model.
+fn the_reads() -> bool {
+    let mut chips: [Box<dyn Chip>; 2] = [Box::new(Machine::new(pictured())), Box::new(Model::new(pictured(), MOS6569))];
+    let mut sound = true;
+    for (number, (cycle, change, reads)) in READ.iter().enumerate() {
+        let mut state = before(MOS6569, *cycle);
+        change(&mut state);
+        for chip in &mut chips {
+            let found = read_by(chip.as_mut(), &state);
+            if found != Reads::of(reads) {
+                println!("       read {number}, into cycle {cycle}: {found:?}");
+                sound = false;
+            }
+        }
+    }
+    sound
+}
+
+/// Every cycle, with anything in it: the trace is the table's. It is told where it is not: here sprite 1 has a mask and no flag, which no
+/// state says, and the original reads its pointer alone.
+fn the_trace() -> bool {
+    let mut r = Rng::new(7);
+    let mut machine = Machine::new(pictured());
+    let sound = (0..100_000).all(|number: u32| {
+        let (mut state, _) = accepted_state(&mut r, MOS6569, 1 + (number % 63) as u16);
+        state.clock = state.clock.min(CLOCK_LIMIT - 2);
+        _ = read_by(&mut machine, &state);
+        machine.records().traced == u64::from(number) + 1 && machine.records().other == 0
+    });
+    machine.load(&State { dma: 2, ..before(MOS6569, 60) });
+    machine.set_flags(0);
+    machine.tick().expect("the tick is taken");
+    sound && machine.records().other == 1
+}
+
+/// The six bytes of an answer, which only a tick that is taken has; and a run file's text, with every word, a refusal and no tick.
+fn the_told_reads() -> bool {
+    let mut machine = Machine::new(pictured());
+    let mut told = |call: u8, bank: u8, state: State| -> (u8, [u8; 6]) {
+        let bytes = answer_case(&mut machine, &Case { call, bank, arguments: [0; 4], state });
+        (bytes[0], bytes[READS..AFTER].try_into().expect("six bytes"))
+    };
+    let mut state = before(MOS6569, 20);
+    text_bad_line(&mut state);
+    aec_low(&mut state);
+    let taken = told(TICK, 0, state.clone()) == (0, [4, 0x1A, 0x11, 3, 0x29, 0x04]) && told(TICK, 0, before(MOS6569, 58)) == (0, [1, 0xF8, 0x07, 0, 0, 0]);
+    let refused = told(TICK, 4, state.clone()) == (2, [0; 6])
+        && told(TICK, 0, State { raster: 312, ..state.clone() }) == (3, [0; 6])
+        && told(TICK, 0, State { clock: CLOCK_LIMIT, ..state.clone() }) == (4, [0; 6]);
+    let others = OTHERS.iter().all(|call| told(*call, 0, state.clone()) == (0, [0; 6])) && told(TICK, 0, before(MOS6569, 11)) == (0, [0; 6]);
+
+    let text = |bytes: &[u8]| {
+        let mut text = Vec::new();
+        bus(bytes, &mut text, Machine::new).expect("a list can be written");
+        String::from_utf8(text).expect("the text is plain")
+    };
+    // Matrix at 0x0400 and sprite 4 on; its DMA begins on line 0, in cycle 55. The run ends with a step that is none.
+    let mut run = vec![0, 0, 0, 0, 0, 0, 70, 0, 1, 0x18, 0x14, 0, 0, 1, 0x15, 0x10, 0, 0];
+    run.extend([0; 5 * 67]);
+    run.extend([7, 4, 0, 0, 0]);
+    let lines: Vec<String> = text(&run).lines().map(str::to_string).collect();
+    let at = |n: usize| lines.get(n).map_or("", String::as_str);
+    let shown = lines.len() == 69
+        && [at(0), at(1), at(2), at(11), at(15), at(16), at(57)]
+            == ["steps 70", "1 311 pointer 07FB", "2 0 idle 3FFF", "11 0", "15 0", "16 0 idle 3FFF", "57 0 idle 3FFF"]
+        && [at(64), at(65), at(66), at(67), at(68)]
+            == ["1 1 pointer 07FB", "2 1 idle 3FFF", "3 1 pointer 07FC sprite 0000", "4 1 sprite 0001 sprite 0002", "refused 8 69"];
+    taken && refused && others && shown && text(&[]) == "refused 7 0\n" && text(&[0; 8]) == "steps 0\n"
+}
+
+/// Its own slots, and four cycles that have nothing to do: 10 and 56 to 58.
+fn the_reads_of_the_6567r8() -> bool {
+    let mut model = Model::new(pictured(), MOS6567R8);
+    let mut read = |cycle: u16, change: Change| {
+        let mut state = before(MOS6567R8, cycle);
+        change(&mut state);
+        read_by(&mut model, &state)
+    };
+    let idle = Reads::of(&[(Reason::Idle, 0x3FFF)]);
+    // All sprites fetch: the slots are in pairs, and sprite 0's first byte wants AEC.
+    let pairs = (0..8u16).all(|k| {
+        let (pointer, data) = ([59, 61, 63, 65, 2, 4, 6, 8][usize::from(k)], [60, 62, 64, 1, 3, 5, 7, 9][usize::from(k)]);
+        let at = 0x2009 + 0x40 * k;
+        let on: Change = |s| (s.dma, s.aec_counter) = (0xFF, 0);
+        read(pointer, on) == Reads::of(&[(Reason::Pointer, 0x07F8 + k), (Reason::Sprite, at)])
+            && read(data, on) == Reads::of(&[(Reason::Sprite, at), (Reason::Sprite, at + 1)])
+            && read(pointer, |_| {}) == Reads::of(&[(Reason::Pointer, 0x07F8 + k)])
+            && read(data, |_| {}) == idle
+    });
+    let refused = read(59, |s| s.dma = 1) == Reads::of(&[(Reason::Pointer, 0x07F8)]);
+    let holes = [10, 56, 57, 58].iter().all(|cycle| read(*cycle, aec_low) == idle && read(*cycle, |s| s.dma = 0xFF) == idle);
+    let none = (11..=15).all(|cycle| read(cycle, aec_low) == Reads::default());
+    let bad: Change = |s| (text_bad_line(s), aec_low(s)).0;
+    let rows = read(15, bad) == Reads::of(&[(Reason::Matrix, 0x0428)])
+        && read(16, bad) == Reads::of(&[(Reason::Graphics, 0x111A), (Reason::Matrix, 0x0429)])
+        && read(55, bad) == Reads::of(&[(Reason::Graphics, 0x111A)]);
+    pairs && refused && holes && none && rows
 }
 
 /// Between two ticks, on line 100. The compare line is 356 first, 100 but for its bit 8.

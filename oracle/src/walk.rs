@@ -21,7 +21,7 @@ impl<C: Chip> Walker<C> {
         Self { chip, kind, column: column(kind), quiet: 1, left: 0 }
     }
 
-    /// What the chip's records of sprite DMA were so far.
+    /// What was found of the chip's records of sprite DMA and its reads so far.
     pub fn records(&self) -> Records {
         self.chip.records()
     }

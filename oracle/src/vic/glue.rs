@@ -9,6 +9,7 @@ use crate::clockchip::signals::LineLevel;
 use crate::kind::MOS6569;
 use crate::late::{comes_late, Met};
 use crate::memory::Memory;
+use crate::reads::{told, Before, Reads};
 use crate::scene::State;
 
 /// The fields that the original and a scene hold alike, each pair said once: `set` copies one way or the other.
@@ -92,8 +93,10 @@ pub struct Machine {
     stands_in: bool,
     /// How many ticks found DEN late.
     late: u64,
-    /// What was found of its two records of sprite DMA.
+    /// What was found of its two records of sprite DMA, and of its reads.
     records: Records,
+    /// What the last tick read.
+    reads: Reads,
 }
 
 impl Machine {
@@ -104,7 +107,7 @@ impl Machine {
 
     /// The original alone, at power-up.
     pub fn new(memory: Memory) -> Self {
-        let mut machine = Self { chip: VicII::new(), memory, stands_in: false, late: 0, records: Records::default() };
+        let mut machine = Self::with(memory);
         // Drawing costs time and feeds nothing back; `check` compares both arms.
         machine.draw(false);
         machine.power_up(MOS6569);
@@ -113,7 +116,11 @@ impl Machine {
 
     /// The original's own power-up, with nothing put right.
     pub fn original_power_up() -> State {
-        Self { chip: VicII::new(), memory: Memory::new(), stands_in: false, late: 0, records: Records::default() }.state()
+        Self::with(Memory::new()).state()
+    }
+
+    fn with(memory: Memory) -> Self {
+        Self { chip: VicII::new(), memory, stands_in: false, late: 0, records: Records::default(), reads: Reads::default() }
     }
 
     /// Chooses the arm of the original's `render_live`.
@@ -152,6 +159,30 @@ impl Machine {
             self.records.looked += 1;
             self.records.apart += u64::from(self.flags() != self.chip.sprites.sprite_dma);
         }
+    }
+
+    /// One tick of the original, with what is ours beside it.
+    fn step(&mut self) {
+        self.late_den();
+        let before = Before { aec_low: self.chip.aec_low, entering: self.chip.display_transition == transition(true) };
+        // The build for a clock traces nothing.
+        if cfg!(debug_assertions) {
+            self.memory.trace.clear();
+        }
+        // The clock given here is the emulator's own, for the bus latch that is not kept.
+        self.chip.tick_sequencer(&mut self.memory, 0);
+        self.look();
+        if cfg!(debug_assertions) {
+            self.trace(before);
+        }
+    }
+
+    /// After a tick: what it read, where the trace is the table's.
+    fn trace(&mut self, before: Before) {
+        let read = told(&self.memory.trace, before, &self.state());
+        self.records.traced += 1;
+        self.records.other += u64::from(read.is_none());
+        self.reads = read.unwrap_or_default();
     }
 
     /// The bytes that a sprite of this pointer fetches, one after another, by the original's own data slot.
@@ -194,19 +225,18 @@ impl Chip for Machine {
         if self.chip.current_clock > CLOCK_LIMIT - 2 {
             return Err(CLOCK_AT_END);
         }
-        self.late_den();
-        // The clock given here is the emulator's own, for the bus latch that is not kept.
-        self.chip.tick_sequencer(&mut self.memory, 0);
-        self.look();
+        self.step();
         Ok(())
+    }
+
+    fn reads(&self) -> Reads {
+        self.reads
     }
 
     /// For a clock: the state is one that a tick takes.
     fn run(&mut self, ticks: u16, met: &mut Met) {
         for _ in 0..ticks {
-            self.late_den();
-            self.chip.tick_sequencer(&mut self.memory, 0);
-            self.look();
+            self.step();
             if self.watches() {
                 met.tick(self.late);
             }

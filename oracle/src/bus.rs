@@ -1,0 +1,26 @@
+//! The program `bus` of docs/FORMATS.md, on any chip: what each tick of a run file reads (02 (viii)).
+
+use crate::chip::Chip;
+use crate::late::Met;
+use crate::memory::Memory;
+use crate::play::{play, Event};
+use std::io::{self, Write};
+
+/// The reads of a run file's ticks.
+pub fn bus<C: Chip>(bytes: &[u8], output: &mut impl Write, make: impl FnOnce(Memory) -> C) -> io::Result<Met> {
+    play(bytes, make, |event| match event {
+        Event::Steps(steps) => writeln!(output, "steps {steps}"),
+        Event::Tick(chip) => line(chip, output),
+        Event::Refused(refusal, done) => writeln!(output, "refused {refusal} {done}"),
+    })
+}
+
+/// Where the beam is after the tick, and each read with its reason's word.
+fn line(chip: &impl Chip, output: &mut impl Write) -> io::Result<()> {
+    let s = chip.state();
+    write!(output, "{} {}", s.cycle, s.raster)?;
+    for (reason, address) in chip.reads().iter() {
+        write!(output, " {} {address:04X}", reason.word())?;
+    }
+    writeln!(output)
+}
