@@ -1,4 +1,4 @@
-# What tools/chart and tools/dump have in common; sourced by them, which say `does`, the verb of their help.
+# What tools/chart, tools/dump and tools/bus have in common; sourced by them, which say `does`, the verb of their help.
 # Runs the program of the caller's name and of a chip's kind on a run file or on a readable text, which tools/mkrun turns into one; builds it first where it is not there.
 set -euo pipefail
 name=$(basename "$0")
