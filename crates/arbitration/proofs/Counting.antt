@@ -1,7 +1,7 @@
 -- The AEC counter's steps and a clock's, as signed numbers that fit. Assumes nothing.
-use Prim.Native.Nat.{ℕ, zero, suc, _<_}
+use Prim.Native.Nat.{ℕ, zero, suc, _<_, _≤_}
 use mathlib.Core.Path.{_≡_, refl, sym, _∙_, ap}
-use mathlib.Core.Bool.{true, false, true≢false, false≢true}
+use mathlib.Core.Bool.{Bool, true, false, cond, true≢false, false≢true}
 use native.Mathlib.Omega.{arith}
 use lib.Dec.{ltb}
 use lib.IntN.{ℤ, pos, negsuc, _-ℤ_, _+ℤ_, -ℤ-one}
@@ -34,6 +34,10 @@ pub is-negative : (z : ℤ) → ltZ z (pos 0) ≡ low z
 unfolding low
 is-negative (negsuc n) = refl
 is-negative (pos n) = not-below-zero n
+
+pub at-most-one : (b : Bool) → cond b 1 0 ≤ 1
+at-most-one true = omega arith
+at-most-one false = omega arith
 
 -- some half cycles on
 module _ (z : ℤ) (m : ℕ) (h : inRange z) (l : m < 512) where

@@ -1,15 +1,16 @@
--- The AEC counter and the clock keep their bounds, and which field of the bus a step changes. Assumes nothing.
-use Prim.Native.Nat.{ℕ, zero, suc, _+_, _*_}
+-- The AEC counter, the clock and the lost cycles keep their bounds, and which field of the bus a step changes. Assumes nothing.
+use Prim.Native.Nat.{ℕ, zero, suc, _+_, _*_, _≤_}
 use mathlib.Core.Path.{_≡_, refl, sym, ap}
-use mathlib.Core.Bool.{Bool, false, not}
+use mathlib.Core.Bool.{Bool, true, false, not, cond}
 use native.Mathlib.Omega.{arith}
 use lib.Bits.{and-zero-r}
 use lib.IntN.{ℤ, pos, negsuc}
 use Rattle.laws.specs.Clock.{inRange, canTick}
 use Rattle.laws.proofs.Choice.{either, or-false}
 use Rattle.arbitration.specs.declared.Bus.{Bus}
-use Rattle.arbitration.specs.Set.{clock≔, aec≔, balow≔, aeclow≔}
-use Rattle.arbitration.specs.Bus.{down, Counted, aecAfter, low, arbitrated, clockOn, clocked, fresh, spriteAsks, requested}
+use Rattle.arbitration.specs.Set.{clock≔, aec≔, balow≔, aeclow≔, lost≔}
+use Rattle.arbitration.specs.Bus.{down, Counted, aecAfter, low, arbitrated, lostAfter, counted, clockOn, clocked, fresh, spriteAsks, requested}
+use Rattle.arbitration.proofs.Counting.{at-most-one}
 
 counted-down : (z : ℤ) → Counted z → Counted (down z)
 counted-down (negsuc n) h = h
@@ -50,6 +51,37 @@ module _ (b : Bus) where
   unfolding arbitrated clocked aecAfter low
   free-bus e = simp e
 
+  -- and in which no cycle is lost
+  pub free-count : b .balow ≡ false → aec≔ (pos 3) (balow≔ false (aeclow≔ false (clock≔ (clockOn 1 (b .clock)) b))) ≡ counted false (arbitrated (clocked 1 b) false)
+  unfolding counted lostAfter arbitrated clocked aecAfter low
+  free-count e =
+      let same : b .lost + 0 ≡ b .lost = omega arith in
+      rw (e, same)
+
+  pub counted-aec : (begins : Bool) → counted begins b .aec ≡ b .aec
+  unfolding counted
+  counted-aec begins = refl
+
+  pub counted-clock : (begins : Bool) → counted begins b .clock ≡ b .clock
+  unfolding counted
+  counted-clock begins = refl
+
+  pub counted-aeclow : (begins : Bool) → counted begins b .aeclow ≡ b .aeclow
+  unfolding counted
+  counted-aeclow begins = refl
+
+  pub counted-lost : (begins : Bool) → counted begins b .lost ≡ lostAfter begins (b .aeclow) (b .lost)
+  unfolding counted
+  counted-lost begins = refl
+
+  pub arbitrated-lost : (asked : Bool) → arbitrated b asked .lost ≡ b .lost
+  unfolding arbitrated
+  arbitrated-lost asked = refl
+
+  pub clocked-lost : clocked 1 b .lost ≡ b .lost
+  unfolding clocked
+  clocked-lost = refl
+
   pub arbitrated-aec : (asked : Bool) → arbitrated b asked .aec ≡ aecAfter (b .aec) asked
   unfolding arbitrated
   arbitrated-aec asked = refl
@@ -70,10 +102,24 @@ module _ (b : Bus) where
   unfolding clocked
   clocked-aeclow = refl
 
--- power-up is within both bounds
+-- a tick loses one cycle at most, and where a line begins it is the only one
+pub lost-most : (begins taken : Bool) (lost : ℕ) → lostAfter begins taken lost ≤ lost + 1
+unfolding lostAfter
+lost-most true taken lost = omega (arith, at-most-one taken)
+lost-most false taken lost = omega (arith, at-most-one taken)
+
+pub lost-begun : (taken : Bool) (lost : ℕ) → lostAfter true taken lost ≤ 1
+unfolding lostAfter
+lost-begun taken lost = omega (arith, at-most-one taken)
+
+-- power-up is within the bounds
 pub fresh-aec : Counted (fresh .aec)
 unfolding fresh
 fresh-aec = omega arith
+
+pub fresh-lost : fresh .lost ≡ 0
+unfolding fresh
+fresh-lost = refl
 
 pub fresh-clock : inRange (fresh .clock)
 unfolding fresh

@@ -1,5 +1,5 @@
--- BA warns the CPU and AEC takes the bus (Bauer 3.6.1).
-use Prim.Native.Nat.{ℕ, zero, suc, _*_, _≤_}
+-- BA warns the CPU and AEC takes the bus (Bauer 3.6.1); how many cycles of a line it took so far (02 (xi)).
+use Prim.Native.Nat.{ℕ, zero, suc, _+_, _*_, _≤_}
 use mathlib.Core.Path.{_≡_}
 use mathlib.Core.Bool.{Bool, true, false, not, _&&_, _||_, cond}
 use lib.Dec.{eqb}
@@ -9,11 +9,11 @@ use Rattle.schedule.specs.Kind.{Kind}
 use Rattle.schedule.specs.Diagram.{happens, firstPhase, secondPhase}
 use Rattle.schedule.specs.Requests.{maskAt}
 use Rattle.arbitration.specs.declared.Bus.{Bus}
-use Rattle.arbitration.specs.Set.{clock≔}
+use Rattle.arbitration.specs.Set.{clock≔, lost≔}
 
--- 01, power-up: clock 0, AEC counter 3
+-- 01, power-up: clock 0, AEC counter 3; 02 (xi): no cycle lost
 unfoldable pub fresh : Bus
-fresh = record { clock = pos 0; fall = pos 0; rise = pos 0; aec = pos 3; balow = false; aeclow = false }
+fresh = record { clock = pos 0; fall = pos 0; rise = pos 0; aec = pos 3; balow = false; aeclow = false; lost = 0 }
 
 -- 01, tick 1: clock +2, after k cycles k times
 unfoldable pub clockOn : ℕ → ℤ → ℤ
@@ -60,7 +60,15 @@ arbitrated b asked =
       aec = aecAfter (b .aec) asked;
       balow = asked;
       aeclow = low (aecAfter (b .aec) asked);
+      lost = b .lost;
     }
+
+-- 02 (xi): 0 where a line begins, before that tick is counted; then one more where AEC is low after it
+unfoldable pub lostAfter : Bool → Bool → ℕ → ℕ
+lostAfter begins taken lost = cond begins 0 lost + cond taken 1 0
+
+unfoldable pub counted : Bool → Bus → Bus
+counted begins b = lost≔ (lostAfter begins (b .aeclow) (b .lost)) b
 
 -- 01, Arbitration: the DMA mask of the cycle before counts in the two DMA phases
 unfoldable pub phi1Mask : Kind → ℕ → ℕ → ℕ → ℕ

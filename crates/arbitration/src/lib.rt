@@ -1,10 +1,11 @@
-// Who has the bus: the request, BA, the AEC counter, and the clocks of BA's edges.
+// Who has the bus: the request, BA, the AEC counter, the clocks of BA's edges, and the cycles that the CPU has lost on a line.
 ghost use mathlib.Core.Path.{_≡_};
 ghost use mathlib.Core.Bool.{Bool, cond};
+ghost use Prim.Native.Nat.{_<_};
 ghost use lib.IntN.{ℤ};
 ghost use Rattle.laws.specs.Clock.{inRange};
 ghost use Rattle.schedule.specs.Kind.{kindOf};
-ghost use Rattle.arbitration.specs.Bus.{fresh, clockOn, clocked, spriteAsks, requested, aecAfter, low, arbitrated, phi1Mask, phi1High};
+ghost use Rattle.arbitration.specs.Bus.{fresh, clockOn, clocked, spriteAsks, requested, aecAfter, low, arbitrated, lostAfter, counted, phi1Mask, phi1High};
 
 pub struct Bus {
     pub clock: i64,
@@ -13,6 +14,8 @@ pub struct Bus {
     pub aec: i8,
     pub balow: bool,
     pub aeclow: bool,
+    // the cycles of this line that the CPU has lost so far
+    pub lost: u64,
 }
 
 // The clock k cycles on: it counts half cycles.
@@ -63,6 +66,25 @@ pub fn edge_clock(here: bool, clock: i64, old: i64) -> i64
     if here { clock } else { old }
 }
 
+// What a tick adds to the cycles lost.
+fn one_where(taken: bool) -> u64
+    ensures { λ r. ⌜ r ≡ cond taken 1 0 ⌝ }
+{
+    if taken { 1 } else { 0 }
+}
+
+// A line's lost cycles after a tick: none before it where the line begins, and one more where AEC is low.
+fn lost_after(begins: bool, taken: bool, lost: u64) -> u64
+    requires { ⌜ lost < 256 ⌝ }
+    ensures { λ r. ⌜ r ≡ lostAfter begins taken lost ⌝ }
+{
+    let one = one_where(taken);
+    if begins {
+        return one;
+    }
+    lost + one
+}
+
 // The mask that counts in the first clock phase: DMA that starts in this cycle is not in it yet.
 pub fn phi1_mask(kind: u8, dma: u8, previous: u8, cycle: u16) -> u8
     ensures { λ r. ⌜ r ≡ phi1Mask (kindOf kind) dma previous cycle ⌝ }
@@ -90,6 +112,7 @@ impl Bus {
             aec: 3,
             balow: false,
             aeclow: false,
+            lost: 0,
         }
     }
 
@@ -106,6 +129,7 @@ impl Bus {
             aec: self.aec,
             balow: self.balow,
             aeclow: self.aeclow,
+            lost: self.lost,
         }
     }
 
@@ -124,6 +148,24 @@ impl Bus {
             aec: aec,
             balow: asked,
             aeclow: aeclow,
+            lost: self.lost,
+        }
+    }
+
+    // The tick counted, after its arbitration.
+    pub fn count(self, begins: bool) -> Self
+        requires { ⌜ self .lost < 256 ⌝ }
+        ensures { λ r. ⌜ r ≡ counted begins self ⌝ }
+    {
+        let lost = lost_after(begins, self.aeclow, self.lost);
+        Bus {
+            clock: self.clock,
+            fall: self.fall,
+            rise: self.rise,
+            aec: self.aec,
+            balow: self.balow,
+            aeclow: self.aeclow,
+            lost: lost,
         }
     }
 }

@@ -135,7 +135,7 @@ unfolding done
 seen see h x c l e t = ap see (ap (λ (r : Answer). r .chip .side) (tick-taken h (done x c .chip) l e t) ∙ tick-side h (done x c .chip))
 
 pub needed : (h : Host) → lentRefusal h ≡ 0 → Needed h
-unfolding done known kindOf fileWritten registerWritten expandAt controlStored control1Written control2Written controlsPlaced timed accepted aecFine clockFine tickable placeFine fineTest vmliLimit turned hasBit withBit withoutBit pick latch written asked settled triggered irqWritten happens pointerTime dataTime maskAt badLine latched baOutput nextCycle atLastLine nextLine beamTurned Beams.fresh Borders.compared Borders.right38Passed Sprites.allFresh Sprites.fresh Sprites.spriteAt Sprites.upTo Sprites.dmaBegun Sprites.startOne Sprites.started Sprites.firstPhased Sprites.clearAfter Sprites.flipAfter Sprites.expandWritten Buses.fresh Buses.spriteAsks Buses.requested Buses.arbitrated Frames.fresh Frames.swept Frames.rasterBegun Frames.matchRaises Frames.compared Frames.frameBegun Frames.frameEnded Frames.raised Rows.fresh Phases.beginAt Phases.left40At Phases.left38At Phases.right38At Phases.right40At Phases.rememberAt Phases.endAt Phases.bordered Phases.stepAt Phases.firstAt Phases.secondAt Phases.loadAt Phases.phased Phases.slotMoved
+unfolding done known kindOf fileWritten registerWritten expandAt controlStored control1Written control2Written controlsPlaced timed accepted aecFine clockFine tickable placeFine fineTest vmliLimit turned hasBit withBit withoutBit pick latch written asked settled triggered irqWritten happens pointerTime dataTime maskAt badLine latched baOutput nextCycle atLastLine nextLine beamTurned Beams.fresh Borders.compared Borders.right38Passed Sprites.allFresh Sprites.fresh Sprites.spriteAt Sprites.upTo Sprites.dmaBegun Sprites.startOne Sprites.started Sprites.firstPhased Sprites.clearAfter Sprites.flipAfter Sprites.expandWritten Buses.fresh Buses.spriteAsks Buses.requested Buses.arbitrated Buses.lostAfter Buses.counted Frames.fresh Frames.swept Frames.rasterBegun Frames.matchRaises Frames.compared Frames.frameBegun Frames.frameEnded Frames.raised Rows.fresh Phases.beginAt Phases.left40At Phases.left38At Phases.right38At Phases.right40At Phases.rememberAt Phases.endAt Phases.bordered Phases.stepAt Phases.firstAt Phases.secondAt Phases.loadAt Phases.phased Phases.slotMoved
 needed h l =
     record {
       yscroll-0 = seen (λ (s : Side). s .bus .balow) h (place-controls 0x10 0 0) (chipAt 11 0x30) l refl refl;

@@ -95,3 +95,7 @@ phi1 c = phi1High (kindOf (c .side .beam .kind)) (c .side .beam .ba) (c .side .s
 -- 01: the number of sprites with DMA on
 unfoldable pub dmaCount : Chip → ℕ
 dmaCount c = spritesIn (c .side .sprites .dma)
+
+-- 02 (xi): the number that the state keeps
+unfoldable pub cyclesLost : Chip → ℕ
+cyclesLost c = c .side .bus .lost

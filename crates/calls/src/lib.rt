@@ -3,7 +3,7 @@
 ghost use mathlib.Core.Path.{_≡_};
 ghost use Prim.Native.Nat.{_<_};
 ghost use Rattle.chip.specs.Chip.{answer};
-ghost use Rattle.calls.specs.Calls.{registerRead, fileWritten, expandAt, registerWritten, comparesBy, controlStored, control1Written, control2Written, controlsPlaced, lateAt, lateTaken, phi1, dmaCount};
+ghost use Rattle.calls.specs.Calls.{registerRead, fileWritten, expandAt, registerWritten, comparesBy, controlStored, control1Written, control2Written, controlsPlaced, lateAt, lateTaken, phi1, dmaCount, cyclesLost};
 use chip::Answer;
 use chip::Chip;
 use registers::Registers;
@@ -197,4 +197,13 @@ pub fn sprite_count(chip: Chip) -> u32
     let side = chip.side;
     let sprites = side.sprites;
     schedule::sprites_in(sprites.dma)
+}
+
+// How many cycles of its line the CPU has lost so far: no history is read.
+pub fn cycles_lost(chip: Chip) -> u64
+    ensures { λ r. ⌜ r ≡ cyclesLost chip ⌝ }
+{
+    let side = chip.side;
+    let bus = side.bus;
+    bus.lost
 }

@@ -45,6 +45,7 @@ accepted-fine c e =
         sprites = fine-test-fine (holds (fineTest 8 (s .sprites)) (λ h. simp (h, and-false)));
         place = place-fine-pends (s .pending .place) (accepted-place c e);
         clock = clock-fine-range (s .bus .clock) (accepted-clock c e);
+        lost = at-most (s .bus .lost) (s .beam .cycle) (λ h. simp (h, and-false));
       };
       compare = at-most (c .regs .compare) 511 (λ h. simp (h, and-false));
       forced = clock-fine-range (c .picture .pen .forced) (accepted-forced c e);
@@ -75,6 +76,7 @@ fine-accepted c f =
       pends-place-fine _ (s .place),
       range-clock-fine (c .side .bus .clock) (s .clock),
       range-clock-fine (c .picture .pen .forced) (f .forced),
+      le-leb _ _ (s .lost),
     )
 
 -- power-up of a known kind

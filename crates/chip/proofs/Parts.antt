@@ -36,7 +36,7 @@ pub tested : (c : Chip) {counted eight placed clocked forced kind : Bool} {limit
     → kind ≡ known (c .side .beam .kind)
     → last ≡ lastCycle (kindOf (c .side .beam .kind))
     → bottom ≡ lastLine (kindOf (c .side .beam .kind))
-    → (kind && leb 1 (c .side .beam .cycle) && leb (c .side .beam .cycle) last && leb (c .side .beam .raster) bottom && leb (c .regs .compare) 511 && counted && leb (c .side .rows .vc) 1023 && leb (c .side .rows .vcbase) 1023 && leb (c .side .rows .rc) 7 && leb vmli limit && eight && placed && clocked && forced)
+    → (kind && leb 1 (c .side .beam .cycle) && leb (c .side .beam .cycle) last && leb (c .side .beam .raster) bottom && leb (c .regs .compare) 511 && counted && leb (c .side .rows .vc) 1023 && leb (c .side .rows .vcbase) 1023 && leb (c .side .rows .rc) 7 && leb vmli limit && eight && placed && clocked && forced && leb (c .side .bus .lost) (c .side .beam .cycle))
     ≡ accepted c
 unfolding accepted
 tested c counted clocked forced placed eight limit vmli kind last bottom = simp (counted, clocked, forced, placed, eight, limit, vmli, kind, last, bottom)

@@ -1,4 +1,4 @@
--- 01, States we accept; 02 (iv): the kind sets the limits of cycle and raster line, and an unknown one is never accepted.
+-- 01, States we accept; 02 (iv): the kind sets the limits of cycle and raster line, and an unknown one is never accepted; 02 (xi): a line has lost no more cycles than it had.
 use Prim.Native.Nat.{ℕ}
 use mathlib.Core.Bool.{Bool, true, false, _&&_, cond}
 use lib.IntN.{ℤ, pos, negsuc}
@@ -44,6 +44,7 @@ accepted c =
     && placeFine (s .pending .place)
     && clockFine (s .bus .clock)
     && clockFine (c .picture .pen .forced)
+    && leb (s .bus .lost) (s .beam .cycle)
 
 -- 01, Numbers; 02 (iv): 12 where the kind is unknown, then 3 where the state is not accepted; 0 for none
 unfoldable pub stateRefusal : Chip → ℕ

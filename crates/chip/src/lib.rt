@@ -128,6 +128,7 @@ pub fn is_accepted(chip: Chip) -> bool
         & placed
         & clocked
         & forced
+        & (bus.lost <= beam.cycle as u64)
 }
 
 // Why a tick or a late byte does not take this state: 0 where it does.

@@ -55,7 +55,7 @@ module _ (kind : ℕ) (s : List ℕ) (m : Store) where
   module _ (left : Store) (t : Page) (out : List ℕ) (was : Prints kind s m left t out) where
     room : Prints kind s m left (roomed t) out
     unfolding roomed
-    room = by-room (leb (t .at) 65496)
+    room = by-room (leb (t .at) 65490)
       where
         by-room : (b : Bool) → Prints kind s m left (cond b t (page (t .run) 0)) out
         by-room true = was
@@ -147,18 +147,18 @@ module _ (kind : ℕ) (s : List ℕ) (m : Store) where
 
 -- ---- a turn of the loop: room for a line, and then the turn
 
-roomed-fits : (t : Page) → roomed t .at + 40 ≤ 65536
+roomed-fits : (t : Page) → roomed t .at + 46 ≤ 65536
 unfolding roomed
 roomed-fits t =
-    by-test (λ (x : Page). x .at + 40 ≤ 65536) (leb (t .at) 65496) (λ e. omega (arith, leb-true (t .at) 65496 e)) (λ e. omega arith)
+    by-test (λ (x : Page). x .at + 46 ≤ 65536) (leb (t .at) 65490) (λ e. omega (arith, leb-true (t .at) 65490 e)) (λ e. omega arith)
 
 same-run : (t : Page) → roomed t .run ≡ t .run
 unfolding roomed
-same-run t = either (λ (x : Page). x .run ≡ t .run) (leb (t .at) 65496) refl refl
+same-run t = either (λ (x : Page). x .run ≡ t .run) (leb (t .at) 65490) refl refl
 
 module _ (t roomy : Page) (is-room : roomy ≡ roomed t) where
-  pub room-fits : roomy .at + 40 ≤ 65536
-  room-fits = subst (λ (x : Page). x .at + 40 ≤ 65536) (sym is-room) (roomed-fits t)
+  pub room-fits : roomy .at + 46 ≤ 65536
+  room-fits = subst (λ (x : Page). x .at + 46 ≤ 65536) (sym is-room) (roomed-fits t)
 
   run-room : roomy .run ≡ t .run
   run-room = ap (λ (x : Page). x .run) is-room ∙ same-run t

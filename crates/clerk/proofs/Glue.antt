@@ -12,13 +12,13 @@ use Rattle.clerk.specs.Machinery.Page.{page, pageBy, saidOn, pageOn}
 
 module _ (m after-m : Store) (b r : Page) (x : Made) (found : Found) (at : ℕ) (out after : List ℕ) where
   abbrev Turn : Made → Type 0
-  Turn y = (r .at ≤ b .at + 40) × ((r ≡ pageBy b y) × Written out (b .at) (textOf y) after (r .at))
+  Turn y = (r .at ≤ b .at + 46) × ((r ≡ pageBy b y) × Written out (b .at) (textOf y) after (r .at))
 
-  pub turned-by : x ≡ madeOn m (b .run) found → r ≡ page (x .run) at → at ≤ b .at + 40 → Written out (b .at) (textOf x) after at → after-m ≡ storeAt m (found .item)
-      → (r .at ≤ b .at + 40) × ((r ≡ pageOn m b found) × (Written out (b .at) (saidOn m b found) after (r .at) × (after-m ≡ storeAt m (found .item))))
+  pub turned-by : x ≡ madeOn m (b .run) found → r ≡ page (x .run) at → at ≤ b .at + 46 → Written out (b .at) (textOf x) after at → after-m ≡ storeAt m (found .item)
+      → (r .at ≤ b .at + 46) × ((r ≡ pageOn m b found) × (Written out (b .at) (saidOn m b found) after (r .at) × (after-m ≡ storeAt m (found .item))))
   turned-by made-is r-is h w f =
       let here : Turn x = (
-        subst (λ (y : Page). y .at ≤ b .at + 40) (sym r-is) h,
+        subst (λ (y : Page). y .at ≤ b .at + 46) (sym r-is) h,
         (
           r-is ∙ ap (page (x .run)) (w .place),
           subst (λ (y : Page). Written out (b .at) (textOf x) after (y .at)) (sym r-is) w,

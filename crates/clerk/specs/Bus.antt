@@ -1,5 +1,5 @@
 -- The bus of a whole run file: what the driver has to tell of each turn, as text; and what the run leaves.
-use Prim.Native.Nat.{ℕ, zero, suc, _+_}
+use Prim.Native.Nat.{ℕ, zero, suc, _+_, _%_}
 use mathlib.Core.Bool.{cond}
 use mathlib.Core.List.{List, [], _++_}
 use lib.ListN.{length}
@@ -14,9 +14,9 @@ use Rattle.driver.specs.Driver.{Store, madeOn, storeAt, begunOf}
 use Rattle.line.specs.Text.{stepsOf, refusedOf}
 use Rattle.ledger.specs.Text.{lineOf}
 
--- 02 (viii): a tick's line has its cycle and its raster line, and its reads
+-- 02 (viii): a tick's line has its cycle and its raster line, and its reads; 02 (xi): the cycles that its line has lost, at most 65 in an accepted state
 abbrev pub tickOf : Chip → Reads → List ℕ
-tickOf c reads = lineOf (c .side .beam .cycle) (c .side .beam .raster) reads
+tickOf c reads = lineOf (c .side .beam .cycle) (c .side .beam .raster) (c .side .bus .lost % 65536) reads
 
 -- 02 (viii): `steps N` and a refusal as in the chart, and a line for each tick
 unfoldable pub textBy : Event → Chip → ℕ → Reads → List ℕ

@@ -36,18 +36,20 @@ fn begun(kind: u8) -> Page
 
 // A tick's line.
 fn tick(out: &mut [u8], at: usize, chip: Chip, reads: Reads) -> usize
-    requires { ⌜ at + 40 ≤ length (now out) ⌝ }
-    ensures { λ r. ⌜ (r ≤ at + 40) × Written (now (out .entry)) at (tickOf chip reads) (now (out .exit)) r ⌝ }
+    requires { ⌜ at + 46 ≤ length (now out) ⌝ }
+    ensures { λ r. ⌜ (r ≤ at + 46) × Written (now (out .entry)) at (tickOf chip reads) (now (out .exit)) r ⌝ }
 {
     let side = chip.side;
     let beam = side.beam;
-    ledger::line(out, at, beam.cycle, beam.raster, reads)
+    let bus = side.bus;
+    let lost = (bus.lost % 65536) as u16;
+    ledger::line(out, at, beam.cycle, beam.raster, lost, reads)
 }
 
 // What is said of a turn.
 fn told(out: &mut [u8], at: usize, event: Event, run: Run, reads: Reads) -> usize
-    requires { ⌜ at + 40 ≤ length (now out) ⌝ }
-    ensures { λ r. ⌜ (r ≤ at + 40) × Written (now (out .entry)) at (textBy event (run .chip) (run .done) reads) (now (out .exit)) r ⌝ }
+    requires { ⌜ at + 46 ≤ length (now out) ⌝ }
+    ensures { λ r. ⌜ (r ≤ at + 46) × Written (now (out .entry)) at (textBy event (run .chip) (run .done) reads) (now (out .exit)) r ⌝ }
 {
     match event {
         Event::Nothing => at,
@@ -66,8 +68,8 @@ fn turn(
     colour: &mut [u8],
     out: &mut [u8],
 ) -> Page
-    requires { ⌜ before .at + 40 ≤ length (now out) ⌝ }
-    ensures { λ r. ⌜ r .at ≤ before .at + 40 ⌝ }
+    requires { ⌜ before .at + 46 ≤ length (now out) ⌝ }
+    ensures { λ r. ⌜ r .at ≤ before .at + 46 ⌝ }
     ensures { λ r. ⌜ r ≡ pageOn (store (now (ram .entry)) (now (rom .entry)) (now (colour .entry))) before found ⌝ }
     ensures { λ r. ⌜ Written (now (out .entry)) (before .at) (saidOn (store (now (ram .entry)) (now (rom .entry)) (now (colour .entry))) before found) (now (out .exit)) (r .at) ⌝ }
     ensures { λ r. ⌜ store (now (ram .exit)) (now (rom .exit)) (now (colour .exit)) ≡ storeAt (store (now (ram .entry)) (now (rom .entry)) (now (colour .entry))) (found .item) ⌝ }
@@ -94,7 +96,7 @@ fn with_room(before: Page, out: &[u8]) -> Page
     requires { ⌜ before .at ≤ length (now out) ⌝ }
     ensures { λ r. ⌜ r ≡ roomed before ⌝ }
 {
-    if before.at <= 65496 {
+    if before.at <= 65490 {
         return before;
     }
     flush(out, before.at);

@@ -46,7 +46,7 @@ module _ (r : Read) (end : ℕ) {test : Bool} (is : test ≡ named (r .reason)) 
   no-read t = simp (sym is ∙ t)
 
 -- the line, by the tests of its reads and the ends that they give
-pub line-is : (cycle raster : ℕ) (reads : Reads) {one two : Bool} {any another : ℕ} → one ≡ named (reads .first .reason) → two ≡ named (reads .second .reason) → any ≡ endOf (one || two) → another ≡ endOf two
-    → lineOf cycle raster reads ≡ textOf cycle 32 ++ (textOf raster any ++ (readOf (reads .first) another ++ readOf (reads .second) 10))
+pub line-is : (cycle raster lost : ℕ) (reads : Reads) {one two : Bool} {any another : ℕ} → one ≡ named (reads .first .reason) → two ≡ named (reads .second .reason) → any ≡ endOf (one || two) → another ≡ endOf two
+    → lineOf cycle raster lost reads ≡ textOf cycle 32 ++ (textOf raster 32 ++ (textOf lost any ++ (readOf (reads .first) another ++ readOf (reads .second) 10)))
 unfolding lineOf
-line-is cycle raster reads one two any another = simp (any, another, one, two)
+line-is cycle raster lost reads one two any another = simp (any, another, one, two)

@@ -1,4 +1,4 @@
--- A tick's line on the bus: 02 (viii), cycle and raster line, and each read with its reason and its address.
+-- A tick's line on the bus: 02 (viii), cycle and raster line, and each read with its reason and its address; 02 (xi), the cycles that are lost.
 use Prim.Native.Nat.{ℕ, _+_, _/_, _%_}
 use mathlib.Core.Bool.{Bool, _&&_, _||_, cond}
 use mathlib.Core.List.{List, [], _∷_, _++_}
@@ -36,10 +36,11 @@ endOf more = cond more 32 10
 unfoldable pub readOf : Read → ℕ → List ℕ
 readOf r end = cond (named (r .reason)) (wordOf (r .reason) ++ addressOf (r .address) end) []
 
--- 02 (viii): cycle and raster line, and the reads in their order
-unfoldable pub lineOf : ℕ → ℕ → Reads → List ℕ
-lineOf cycle raster reads =
+-- 02 (viii): cycle and raster line, and the reads in their order; 02 (xi): before them the lost cycles
+unfoldable pub lineOf : ℕ → ℕ → ℕ → Reads → List ℕ
+lineOf cycle raster lost reads =
     textOf cycle 32
-    ++ (textOf raster (endOf (named (reads .first .reason) || named (reads .second .reason)))
+    ++ (textOf raster 32
+    ++ (textOf lost (endOf (named (reads .first .reason) || named (reads .second .reason)))
     ++ (readOf (reads .first) (endOf (named (reads .second .reason)))
-    ++ readOf (reads .second) 10))
+    ++ readOf (reads .second) 10)))

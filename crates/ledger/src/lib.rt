@@ -83,9 +83,9 @@ fn read(out: &mut [u8], at: usize, r: Read, end: u8) -> usize
 }
 
 // A tick's line.
-pub fn line(out: &mut [u8], at: usize, cycle: u16, raster: u16, reads: Reads) -> usize
-    requires { ⌜ at + 40 ≤ length (now out) ⌝ }
-    ensures { λ r. ⌜ (r ≤ at + 40) × Written (now (out .entry)) at (lineOf cycle raster reads) (now (out .exit)) r ⌝ }
+pub fn line(out: &mut [u8], at: usize, cycle: u16, raster: u16, lost: u16, reads: Reads) -> usize
+    requires { ⌜ at + 46 ≤ length (now out) ⌝ }
+    ensures { λ r. ⌜ (r ≤ at + 46) × Written (now (out .entry)) at (lineOf cycle raster lost reads) (now (out .exit)) r ⌝ }
 {
     let first = reads.first;
     let second = reads.second;
@@ -94,7 +94,8 @@ pub fn line(out: &mut [u8], at: usize, cycle: u16, raster: u16, reads: Reads) ->
     let any = end(one | two);
     let another = end(two);
     let a = line::put(&mut *out, at, cycle, b' ');
-    let b = line::put(&mut *out, a, raster, any);
-    let c = read(&mut *out, b, first, another);
-    read(&mut *out, c, second, b'\n')
+    let b = line::put(&mut *out, a, raster, b' ');
+    let c = line::put(&mut *out, b, lost, any);
+    let d = read(&mut *out, c, first, another);
+    read(&mut *out, d, second, b'\n')
 }

@@ -69,6 +69,10 @@ fn dma_count(chip: Chip) -> u16 {
     (calls::sprite_count(chip) % 65536) as u16
 }
 
+fn lost(chip: Chip) -> u16 {
+    (calls::cycles_lost(chip) % 65536) as u16
+}
+
 // One call by its number; any other number is tested before.
 fn perform(chip: Chip, memories: &[u8], call: u8, bank: u8, a: u8, b: u8, c: u8, d: u8) -> Told
     requires { ⌜ length (now memories) ≡ 21504 ⌝ }
@@ -85,12 +89,15 @@ fn perform(chip: Chip, memories: &[u8], call: u8, bank: u8, a: u8, b: u8, c: u8,
     if call == 9 {
         return valued(dma_count(chip), chip);
     }
+    if call == 13 {
+        return valued(lost(chip), chip);
+    }
     valued(0, chip::power_up(a))
 }
 
-// A run file has the first six, 7 to 9 are questions, 10 and 11 the control registers, 12 is power-up; 6 is retired.
+// A run file has the first six, 7 to 9 and 13 are questions, 10 and 11 the control registers, 12 is power-up; 6 is retired.
 fn is_call(call: u8) -> bool {
-    (call <= 12) & (call != 6)
+    (call <= 13) & (call != 6)
 }
 
 // Writes one answer; false where that fails.
@@ -110,7 +117,7 @@ fn tell(told: Told) -> bool {
         (second.address % 256) as u8,
         (second.address / 256) as u8,
     ];
-    let mut body = [0u8; 309];
+    let mut body = [0u8; 310];
     scene::encode(chip, &mut body);
     let written = io::write_all(STDOUT_FILENO, &head);
     if !written {
@@ -150,13 +157,13 @@ fn one(memories: &[u8]) -> bool
     requires { ⌜ length (now memories) ≡ 21504 ⌝ }
 {
     let mut call = [0u8; 6];
-    let mut body = [0u8; 309];
+    let mut body = [0u8; 310];
     let called = io::read_full(STDIN_FILENO, &mut call);
     let read = io::read_full(STDIN_FILENO, &mut body);
     if called != 6 {
         return false;
     }
-    if read != 309 {
+    if read != 310 {
         return false;
     }
     answer(call, &body, memories)

@@ -67,7 +67,7 @@ module _ (c : Chip) (s : Saved c) where
 
   bus : busAt (encoded c) ≡ c .side .bus
   unfolding encoded
-  bus = simp (flag-back, clock-back (c .side .bus .clock) (s .clock), clock-back (c .side .bus .fall) (s .fall), clock-back (c .side .bus .rise) (s .rise), count-back (c .side .bus .aec) (s .aec))
+  bus = simp (flag-back, clock-back (c .side .bus .clock) (s .clock), clock-back (c .side .bus .fall) (s .fall), clock-back (c .side .bus .rise) (s .rise), count-back (c .side .bus .aec) (s .aec), mod-eq-of-lt (s .lost))
 
   pen : penAt (encoded c) ≡ c .picture .pen
   unfolding encoded

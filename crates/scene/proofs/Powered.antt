@@ -46,6 +46,7 @@ powered-is-saved kind =
       bytes = refl;
       words = refl;
       word = no-word 8;
+      lost = lit< tt;
       aec = record { sfits = lit< tt };
       fall = record { sfits = lit< tt };
       rise = record { sfits = lit< tt };

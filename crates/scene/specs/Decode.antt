@@ -1,4 +1,4 @@
--- What the 309 bytes of the newest version hold, field by field in the order of FORMATS, Scene, and which bytes are a scene.
+-- What the 310 bytes of the newest version hold, field by field in the order of FORMATS, Scene, and which bytes are a scene.
 use Prim.Native.Nat.{ℕ, zero, suc, _+_, _*_}
 use mathlib.Core.Bool.{Bool, true, false, _&&_, _||_, cond}
 use mathlib.Core.List.{List, [], _∷_, _++_}
@@ -27,7 +27,7 @@ abbrev pub eightAt : List ℕ → ℕ → List ℕ
 eightAt s i =
     byteAt s i ∷ byteAt s (i + 1) ∷ byteAt s (i + 2) ∷ byteAt s (i + 3) ∷ byteAt s (i + 4) ∷ byteAt s (i + 5) ∷ byteAt s (i + 6) ∷ byteAt s (i + 7) ∷ []
 
--- timing, from 4; 02 (iv): the kind, last
+-- timing, from 4; 02 (iv): the kind, at 308
 abbrev pub beamAt : List ℕ → Beam
 beamAt s =
     record {
@@ -142,6 +142,7 @@ rowsAt s =
       access = flagAt s 262;
     }
 
+-- 02 (xi): the lost cycles, last
 abbrev pub busAt : List ℕ → Bus
 busAt s =
     record {
@@ -151,6 +152,7 @@ busAt s =
       aec = aecOf (byteAt s 274);
       balow = flagAt s 257;
       aeclow = flagAt s 258;
+      lost = byteAt s 309;
     }
 
 abbrev pub frameAt : List ℕ → Frame
@@ -229,6 +231,6 @@ decodedFields s = cond (fieldsFine s) (record { scene = true; chip = chipAt s })
 unfoldable pub decodedNewest : List ℕ → Decoded
 decodedNewest s = cond (isNewest s) (decodedFields s) noScene
 
--- 02 (iv), 02 (ix): every version is read
+-- 02 (iv), 02 (ix), 02 (xi): every version is read
 unfoldable pub decoded : List ℕ → Decoded
 decoded s = decodedNewest (renewed s)

@@ -8,7 +8,7 @@ use Rattle.sprites.specs.Sprites.{spriteAt}
 use Rattle.rows.specs.Pending.{Pends}
 use Rattle.chip.specs.declared.Chip.{Chip}
 
--- Both modes are below 8, the pending place is on the line and a sprite's number is one byte. The rest holds of every chip that a program has, by its types: its arrays have their lengths,
+-- Both modes are below 8, the pending place is on the line, and a sprite's number and the lost cycles are one byte. The rest holds of every chip that a program has, by its types: its arrays have their lengths,
 -- a sprite's word fits 32 bits, the AEC counter 8 and a clock 64. (The other numbers come back whatever they are, the kind too.)
 pub record Saved (c : Chip) : Type 0 where
   pub mode : c .picture .pen .mode < 8
@@ -25,6 +25,7 @@ pub record Saved (c : Chip) : Type 0 where
   pub bytes : length (c .picture .bytes) ≡ 24
   pub words : length (c .picture .words) ≡ 8
   pub word : (k : ℕ) → getD (c .picture .words) k 0 < 4294967296
+  pub lost : c .side .bus .lost < 256
   pub aec : SFits w8 (c .side .bus .aec)
   pub fall : SFits w64 (c .side .bus .fall)
   pub rise : SFits w64 (c .side .bus .rise)

@@ -9,6 +9,8 @@ use native.Mathlib.Nat.{zero-add, suc-add}
 use lib.Dec.{eqb}
 use lib.ListN.{length}
 use borrow.Author.Tests.{ne-eqb}
+use Rattle.schedule.specs.Kind.{kindOf}
+use Rattle.schedule.proofs.Places.{last-most}
 use Rattle.memory.proofs.Lent.{host-lent, host-colour}
 use Rattle.memory.specs.Lent.{Host, lentRefusal}
 use Rattle.registers.specs.declared.Registers.{Registers}
@@ -21,7 +23,7 @@ use Rattle.chip.specs.Chip.{answer, reading}
 use Rattle.sequencer.specs.World.{World, chipOf}
 use Rattle.sequencer.specs.Tick.{tickable, tickWorld, tickReads, tickRefusal, ticked, ticksFrom}
 use Rattle.sequencer.specs.Machinery.Parts.{Ready, Held}
-use Rattle.chip.proofs.Fine.{accepted-taken}
+use Rattle.chip.proofs.Fine.{accepted-fine, accepted-taken}
 use Rattle.chip.proofs.Accepted.{accepted-clock, accepted-forced, clock-fine-range}
 use Rattle.sequencer.proofs.Clock.{tickable-can}
 use Rattle.sequencer.proofs.Kept.{world-kept}
@@ -36,6 +38,7 @@ ready {h} {g} {w} held t = record {
   eightWords = held .eightWords;
   clock = tickable-can _ (accepted-clock (chipOf g w) (held .fine)) t;
   forced = clock-fine-range _ (accepted-forced (chipOf g w) (held .fine));
+  lost = let fine = accepted-fine (chipOf g w) (held .fine) .side in omega (arith, fine .lost, fine .last, last-most (kindOf (w .side .beam .kind)));
 }
 
 -- a refusal stays: the state is as it was, so the next tick is refused alike

@@ -233,6 +233,7 @@ module _ (h : Host) (g : Registers) (goes : ℕ → Bool) (w₀ : World) (n : �
         eightWords = r .eightWords;
         clock = room-later k (n - i) (w .side .bus .clock) (omega arith) (p .room);
         forced = r .forced;
+        lost = r .lost;
       }
 
   -- k counted and one done, on from a state of the run

@@ -20,7 +20,7 @@ use Rattle.sprites.specs.Sprites.{spriteAt}
 use Rattle.arbitration.specs.declared.Bus.{Bus}
 use Rattle.arbitration.specs.Bus.{clockOn, clocked}
 use Rattle.arbitration.specs.Set.{clock≔, aec≔, balow≔, aeclow≔}
-use Rattle.arbitration.proofs.Kept.{matrix-alone, free-bus, clocked-sets, clock-on-none, clock-on-one-more}
+use Rattle.arbitration.proofs.Kept.{matrix-alone, free-count, clocked-sets, clock-on-none, clock-on-one-more}
 use Rattle.rows.specs.declared.Rows.{Rows}
 use Rattle.rows.specs.Rows.{vcAfter, vmliAfter, rowsLater}
 use Rattle.rows.specs.Set.{transition≔, access≔}
@@ -116,7 +116,7 @@ quiet-turn g s e =
     let o = slotless k cycle (m .graphics) in
     lit-glue g s l o refl refl refl (border-past k cycle (s .beam .raster) (g .den) (g .csel) (s .border) l o (m .past))
     (sprites-mid k cycle (s .beam .raster) (g .my) (g .enable) (g .yexp) (s .sprites) o m u) (beam-moved (s .beam) cycle (g .den) (g .rsel) (g .yscroll) (e .line) (e .bad))
-    (matrix-alone true (s .sprites .dma) (maskAt k cycle) (u .asks)) (free-bus (s .bus) (e .balow)) refl refl
+    (matrix-alone true (s .sprites .dma) (maskAt k cycle) (u .asks)) refl (free-count (s .bus) (e .balow)) refl refl
     (rows-mid cycle (s .rows) l m (e .transition) (e .access)) (none-missed _ (s .pending))
 
 -- a leap changes none of what the test looks at

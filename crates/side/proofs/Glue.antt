@@ -7,7 +7,7 @@ use Rattle.laws.specs.Bits.{hasBit}
 use Rattle.laws.specs.Pick.{pick}
 use Rattle.schedule.specs.Kind.{kindOf}
 use Rattle.schedule.specs.Requests.{maskAt}
-use Rattle.schedule.specs.Diagram.{pointerTime, dataTime, slotSprite, slotAfterBus}
+use Rattle.schedule.specs.Diagram.{happens, lineBegins, pointerTime, dataTime, slotSprite, slotAfterBus}
 use Rattle.registers.specs.declared.Controls.{Controls}
 use Rattle.timing.specs.declared.Beam.{Beam}
 use Rattle.timing.specs.Beam.{nextCycle, beamTurned}
@@ -18,7 +18,7 @@ use Rattle.sprites.specs.declared.Sprite.{Sprite}
 use Rattle.sprites.specs.declared.Sprites.{Sprites}
 use Rattle.sprites.specs.Sprites.{spriteAt}
 use Rattle.arbitration.specs.declared.Bus.{Bus}
-use Rattle.arbitration.specs.Bus.{clocked, requested, arbitrated}
+use Rattle.arbitration.specs.Bus.{clocked, requested, arbitrated, counted}
 use Rattle.rows.specs.declared.Rowed.{Rowed}
 use Rattle.rows.specs.declared.Waits.{Waits}
 use Rattle.rows.specs.Rows.{rowed}
@@ -28,7 +28,7 @@ use Rattle.side.specs.declared.Turned.{Turned}
 use Rattle.side.specs.Phases.{bordered, phased, slotMoved}
 use Rattle.side.specs.Turn.{turned}
 
-pub turn-glue : (g : Controls) (s : Side) {clk bus : Bus} {cycle asking n : ℕ} {asked mask after low pointing fetching : Bool} {sweep : Swept} {beam : Beam} {border : Border} {ph spr : Sprites} {sprite : Sprite} {now : Rowed} {pending : Waits}
+pub turn-glue : (g : Controls) (s : Side) {clk arb bus : Bus} {cycle asking n : ℕ} {asked begins mask after low pointing fetching : Bool} {sweep : Swept} {beam : Beam} {border : Border} {ph spr : Sprites} {sprite : Sprite} {now : Rowed} {pending : Waits}
     → clk ≡ clocked 1 (s .bus)
     → cycle ≡ nextCycle (kindOf (s .beam .kind)) (s .beam .cycle)
     → sweep ≡ swept (kindOf (s .beam .kind)) (s .frame) (s .irq) cycle (s .beam .raster) (g .compare) (g .den) (s .beam .latch)
@@ -37,7 +37,9 @@ pub turn-glue : (g : Controls) (s : Side) {clk bus : Bus} {cycle asking n : ℕ}
     → beam ≡ beamTurned (s .beam) cycle (sweep .line) (sweep .latch) (sweep .kept) (sweep .raster) (g .den) (g .rsel) (g .yscroll)
     → asking ≡ maskAt (kindOf (s .beam .kind)) cycle
     → asked ≡ requested (beam .ba) (ph .dma) asking
-    → bus ≡ arbitrated clk asked
+    → arb ≡ arbitrated clk asked
+    → begins ≡ happens lineBegins cycle
+    → bus ≡ counted begins arb
     → n ≡ slotSprite (kindOf (s .beam .kind)) cycle
     → pointing ≡ pointerTime (kindOf (s .beam .kind)) cycle
     → fetching ≡ dataTime (kindOf (s .beam .kind)) cycle
@@ -82,5 +84,5 @@ pub turn-glue : (g : Controls) (s : Side) {clk bus : Bus} {cycle asking n : ℕ}
       };
     }) (turned g s)
 unfolding turned
-turn-glue g s clk cycle sweep border ph beam asking asked bus n pointing fetching sprite mask spr after low now pending =
-    rw (← clk, ← cycle, ← sweep, ← border, ← ph, ← beam, ← asking, ← asked, ← bus, ← n, ← pointing, ← fetching, ← sprite, ← mask, ← spr, ← after, ← low, ← now, ← pending)
+turn-glue g s clk cycle sweep border ph beam asking asked arb begins bus n pointing fetching sprite mask spr after low now pending =
+    rw (← clk, ← cycle, ← sweep, ← border, ← ph, ← beam, ← asking, ← asked, ← arb, ← begins, ← bus, ← n, ← pointing, ← fetching, ← sprite, ← mask, ← spr, ← after, ← low, ← now, ← pending)

@@ -1,14 +1,15 @@
 -- A tick keeps the timing side of a state we accept as such a state has it, and power-up gives one. Assumes nothing.
-use Prim.Native.Nat.{ℕ, _≤_}
+use Prim.Native.Nat.{ℕ, _+_, _≤_}
 use mathlib.Core.Path.{_≡_, refl, sym, subst, _∙_}
 use mathlib.Core.Bool.{Bool, true, not, _&&_, cond}
 use mathlib.Core.List.{List}
 use native.Mathlib.Omega.{arith}
+use lib.Dec.{ltb}
 use Rattle.laws.specs.Clock.{canTick}
-use Rattle.laws.proofs.Choice.{either}
+use Rattle.laws.proofs.Choice.{either, by-test}
 use Rattle.schedule.specs.Kind.{Kind, known, kindOf, lastCycle, lastLine}
 use Rattle.schedule.proofs.Places.{last-least}
-use Rattle.schedule.specs.Diagram.{happens, mcbaseStep, firstPhase, secondPhase, mcLoad}
+use Rattle.schedule.specs.Diagram.{happens, lineBegins, mcbaseStep, firstPhase, secondPhase, mcLoad}
 use Rattle.registers.specs.declared.Controls.{Controls}
 use Rattle.timing.specs.Beam.{badLine, nextCycle}
 use Rattle.timing.proofs.Kept.{cycle-low, cycle-high, turned-kind, turned-cycle, turned-raster, turned-latch, turned-bad, turned-rising, fresh-kind, fresh-cycle, fresh-raster}
@@ -19,8 +20,8 @@ use Rattle.sprites.specs.declared.Sprites.{Sprites}
 use Rattle.sprites.specs.Fine.{FineSprites}
 use Rattle.sprites.proofs.Kept.{fine-mcbase, fine-first, fine-second, fine-load, fine-fetched, fine-fresh}
 use Rattle.arbitration.specs.declared.Bus.{Bus}
-use Rattle.arbitration.specs.Bus.{Counted, clockOn, clocked, arbitrated}
-use Rattle.arbitration.proofs.Kept.{aec-kept, clock-on-range, arbitrated-aec, arbitrated-clock, clocked-aec, clocked-clock, fresh-aec, fresh-clock}
+use Rattle.arbitration.specs.Bus.{Counted, clockOn, clocked, arbitrated, aecAfter, low, lostAfter, counted}
+use Rattle.arbitration.proofs.Kept.{aec-kept, clock-on-range, arbitrated-aec, arbitrated-clock, clocked-aec, clocked-clock, counted-aec, counted-clock, lost-most, lost-begun, fresh-aec, fresh-clock, fresh-lost}
 use Rattle.rows.specs.Pending.{Pends}
 use Rattle.rows.specs.Fine.{FineRows}
 use Rattle.rows.proofs.Kept.{rows-kept}
@@ -47,11 +48,26 @@ slot-kept : (pointing fetching : Bool) (n : ℕ) {s : Sprites} → FineSprites s
 unfolding slotMoved
 slot-kept pointing fetching n h = either FineSprites pointing (fine-fetched n 1 h) (either FineSprites fetching (fine-fetched n 2 h) h)
 
-bus-aec : (b : Bus) (asked : Bool) → Counted (b .aec) → Counted (arbitrated (clocked 1 b) asked .aec)
-bus-aec b asked h = rw (arbitrated-aec (clocked 1 b) asked, clocked-aec b) (aec-kept (b .aec) asked h)
+module _ (b : Bus) (begins asked : Bool) where
+  abbrev busAfter : Bus
+  busAfter = counted begins (arbitrated (clocked 1 b) asked)
 
-bus-clock : (b : Bus) (asked : Bool) → arbitrated (clocked 1 b) asked .clock ≡ clockOn 1 (b .clock)
-bus-clock b asked = arbitrated-clock (clocked 1 b) asked ∙ clocked-clock b
+  bus-aec : Counted (b .aec) → Counted (busAfter .aec)
+  bus-aec h = rw (counted-aec (arbitrated (clocked 1 b) asked) begins, arbitrated-aec (clocked 1 b) asked, clocked-aec b) (aec-kept (b .aec) asked h)
+
+  bus-clock : busAfter .clock ≡ clockOn 1 (b .clock)
+  bus-clock = counted-clock (arbitrated (clocked 1 b) asked) begins ∙ arbitrated-clock (clocked 1 b) asked ∙ clocked-clock b
+
+  bus-lost : busAfter .lost ≡ lostAfter begins (low (aecAfter (b .aec) asked)) (b .lost)
+  unfolding counted arbitrated clocked
+  bus-lost = refl
+
+-- a line has lost no more cycles than it had
+lost-kept : (k : Kind) (c : ℕ) (taken : Bool) (lost : ℕ) → lost ≤ c → lostAfter (happens lineBegins (nextCycle k c)) taken lost ≤ nextCycle k c
+unfolding nextCycle happens
+lost-kept k c taken lost h =
+    by-test (λ (n : ℕ). lostAfter (happens lineBegins n) taken lost ≤ n) (ltb c (lastCycle k))
+    (λ e. omega (arith, h, lost-most (happens lineBegins (c + 1)) taken lost)) (λ e. lost-begun taken lost)
 
 module _ (g : Controls) (s : Side) where
   -- no tick changes the kind
@@ -90,7 +106,7 @@ module _ (g : Controls) (s : Side) where
 
   pub side-clock : turned g s .side .bus .clock ≡ clockOn 1 (s .bus .clock)
   unfolding turned
-  side-clock = bus-clock (s .bus) _
+  side-clock = bus-clock (s .bus) _ _
 
   pub side-kept : FineSide s → canTick (s .bus .clock) → FineSide (turned g s .side)
   unfolding turned
@@ -101,11 +117,12 @@ module _ (g : Controls) (s : Side) where
         first = subst (λ (n : ℕ). 1 ≤ n) (sym side-cycle) (cycle-low k (s .beam .cycle));
         last = rw side-kind (subst (λ (n : ℕ). n ≤ lastCycle k) (sym side-cycle) (cycle-high k (s .beam .cycle)));
         raster = rw side-kind (subst (λ (n : ℕ). n ≤ lastLine k) (sym side-raster) (raster-kept k (s .frame) (s .irq) _ (s .beam .raster) _ _ _ (h .raster)));
-        aec = bus-aec (s .bus) _ (h .aec);
+        aec = bus-aec (s .bus) _ _ (h .aec);
         rows = subst (λ (n : ℕ). FineRows n (turned g s .side .rows)) (sym side-cycle) (rows-kept k (s .beam .cycle) _ _ _ (s .rows) (h .last) (h .rows));
         sprites = slot-kept _ _ _ (phased-kept k _ _ _ _ _ (h .sprites));
         place = pending-small _ _ (s .pending) (h .place);
-        clock = rw (bus-clock (s .bus) _) (clock-on-range (s .bus .clock) t);
+        clock = rw (bus-clock (s .bus) _ _) (clock-on-range (s .bus .clock) t);
+        lost = subst (λ (n : ℕ). turned g s .side .bus .lost ≤ n) (sym side-cycle) (rw (bus-lost (s .bus) _ _) (lost-kept k (s .beam .cycle) _ (s .bus .lost) (h .lost)));
       }
 
 -- a side that differs only in what FineSide does not look at, and in sprites and a pending place that are fine themselves
@@ -131,6 +148,7 @@ side-same beam bus vc vcbase rc vmli sprites place h =
       sprites = sprites;
       place = place;
       clock = rw bus (h .clock);
+      lost = rw (bus, beam) (h .lost);
     }
 
 pub fresh-fine : (kind : ℕ) → known kind ≡ true → FineSide (freshSide kind)
@@ -146,4 +164,5 @@ fresh-fine kind e =
       sprites = fine-fresh;
       place = tt;
       clock = fresh-clock;
+      lost = rw fresh-lost (omega arith);
     }

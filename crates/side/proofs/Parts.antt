@@ -23,7 +23,7 @@ use Rattle.sprites.specs.declared.Sprite.{Sprite}
 use Rattle.sprites.specs.declared.Sprites.{Sprites}
 use Rattle.sprites.specs.Sprites.{spriteAt}
 use Rattle.arbitration.specs.declared.Bus.{Bus}
-use Rattle.arbitration.specs.Bus.{clocked, requested, arbitrated}
+use Rattle.arbitration.specs.Bus.{clocked, requested, arbitrated, counted}
 use Rattle.rows.specs.declared.Rowed.{Rowed}
 use Rattle.rows.specs.declared.Waits.{Waits}
 use Rattle.rows.specs.Rows.{rowed}
@@ -75,7 +75,7 @@ pub lit-now : (k : Kind) (c : ℕ) {cycle : ℕ} {lit : Bool} → cycle ≡ next
 lit-now k c next before = rw next (sym (before-graphics k c) ∙ before)
 
 -- a turn with a graphics access: the line, the frame and the interrupt stay, and no slot is here
-pub lit-glue : (g : Controls) (s : Side) {clk bus : Bus} {cycle : ℕ} {latch asked mask : Bool} {beam : Beam} {border : Border} {ph : Sprites} {sprite : Sprite} {now : Rowed} {pending : Waits}
+pub lit-glue : (g : Controls) (s : Side) {clk arb bus : Bus} {cycle : ℕ} {latch asked mask : Bool} {beam : Beam} {border : Border} {ph : Sprites} {sprite : Sprite} {now : Rowed} {pending : Waits}
     → Lit cycle
     → Slotless (kindOf (s .beam .kind)) cycle
     → clk ≡ clocked 1 (s .bus)
@@ -85,7 +85,8 @@ pub lit-glue : (g : Controls) (s : Side) {clk bus : Bus} {cycle : ℕ} {latch as
     → ph ≡ phased (kindOf (s .beam .kind)) cycle (s .beam .raster) (g .my) (g .enable) (g .yexp) (s .sprites)
     → beam ≡ beamTurned (s .beam) cycle (s .beam .raster) latch latch (s .beam .raster) (g .den) (g .rsel) (g .yscroll)
     → asked ≡ requested (beam .ba) (ph .dma) (maskAt (kindOf (s .beam .kind)) cycle)
-    → bus ≡ arbitrated clk asked
+    → arb ≡ arbitrated clk asked
+    → bus ≡ counted false arb
     → sprite ≡ spriteAt ph 0
     → mask ≡ hasBit (ph .dma) 0
     → now ≡ rowed cycle (beam .bad) (beam .rising) false (s .rows)
@@ -124,5 +125,5 @@ pub lit-glue : (g : Controls) (s : Side) {clk bus : Bus} {cycle : ℕ} {latch as
       };
     }) (turned g s)
 unfolding turned slotMoved
-lit-glue g s {bus = bus'} {cycle = cycle'} l o clk cycle latch border ph beam asked bus sprite mask now pending =
-    rw (← clk, ← cycle, ← swept-later (kindOf (s .beam .kind)) (s .frame) (s .irq) cycle' (s .beam .raster) (g .compare) (g .den) (s .beam .latch) (record { begins = l .begins; wraps = l .wraps }), ← latch, ← border, ← ph, ← beam, ← asked, ← bus, o .sprite, o .pointing, o .fetching, o .after, ← sprite, ← mask, picks false (bus' .aeclow) (s .bus .aeclow), ← now, ← pending)
+lit-glue g s {bus = bus'} {cycle = cycle'} l o clk cycle latch border ph beam asked arb bus sprite mask now pending =
+    rw (← clk, ← cycle, ← swept-later (kindOf (s .beam .kind)) (s .frame) (s .irq) cycle' (s .beam .raster) (g .compare) (g .den) (s .beam .latch) (record { begins = l .begins; wraps = l .wraps }), ← latch, ← border, ← ph, ← beam, ← asked, ← arb, l .begins, ← bus, o .sprite, o .pointing, o .fetching, o .after, ← sprite, ← mask, picks false (bus' .aeclow) (s .bus .aeclow), ← now, ← pending)

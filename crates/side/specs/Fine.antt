@@ -1,4 +1,4 @@
--- What holds of an accepted state's timing side (01, States we accept; 02 (iv)).
+-- What holds of an accepted state's timing side (01, States we accept; 02 (iv), 02 (xi)).
 use Prim.Native.Nat.{ℕ, _≤_}
 use mathlib.Core.Path.{_≡_}
 use mathlib.Core.Bool.{true}
@@ -20,3 +20,4 @@ pub record FineSide (s : Side) : Type 0 where
   pub sprites : FineSprites (s .sprites)
   pub place : Pends (s .pending .place)
   pub clock : inRange (s .bus .clock)
+  pub lost : s .bus .lost ≤ s .beam .cycle

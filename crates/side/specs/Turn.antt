@@ -5,7 +5,7 @@ use lib.Dec.{eqb}
 use Rattle.laws.specs.Bits.{hasBit}
 use Rattle.laws.specs.Pick.{pick}
 use Rattle.schedule.specs.Kind.{kindOf}
-use Rattle.schedule.specs.Diagram.{pointerTime, dataTime, slotSprite, slotAfterBus}
+use Rattle.schedule.specs.Diagram.{happens, lineBegins, pointerTime, dataTime, slotSprite, slotAfterBus}
 use Rattle.schedule.specs.Requests.{maskAt}
 use Rattle.registers.specs.declared.Controls.{Controls}
 use Rattle.registers.specs.Irq.{quiet}
@@ -15,7 +15,7 @@ use Rattle.raster.specs.Frame.{swept}
 use Rattle.raster.specs.Frame as Frames
 use Rattle.border.specs.Border as Borders
 use Rattle.sprites.specs.Sprites.{allFresh, spriteAt}
-use Rattle.arbitration.specs.Bus.{clocked, requested, arbitrated}
+use Rattle.arbitration.specs.Bus.{clocked, requested, arbitrated, counted}
 use Rattle.arbitration.specs.Bus as Buses
 use Rattle.rows.specs.Rows.{rowed}
 use Rattle.rows.specs.Rows as Rows
@@ -53,8 +53,8 @@ turned g s =
     -- tick 3, 7, 8 and 9: the border's compares, the sprites' phases
     let border = bordered k cycle raster (g .den) (g .csel) (s .border) in
     let sprites = phased k cycle raster (g .my) (g .enable) (g .yexp) (s .sprites) in
-    -- tick 8: arbitration, at the clock of tick 1
-    let bus = arbitrated (clocked 1 (s .bus)) (requested (beam .ba) (sprites .dma) (maskAt k cycle)) in
+    -- tick 8: arbitration, at the clock of tick 1; 02 (xi): after it the tick is counted
+    let bus = counted (happens lineBegins cycle) (arbitrated (clocked 1 (s .bus)) (requested (beam .ba) (sprites .dma) (maskAt k cycle))) in
     -- tick 5: the slot of this cycle
     let n = slotSprite k cycle in
     let pointing = pointerTime k cycle in

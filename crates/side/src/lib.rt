@@ -339,7 +339,7 @@ impl Side {
 // ---- a line's two parts: the cycles with a graphics access, and the others
 
 pub fn turn_lit(side: Side, g: Controls) -> Turned
-    requires { ⌜ inRange (side .bus .clock) ⌝ ∗ ⌜ beforeGraphics (side .beam .cycle) ≡ Bool.true ⌝ }
+    requires { ⌜ inRange (side .bus .clock) ⌝ ∗ ⌜ beforeGraphics (side .beam .cycle) ≡ Bool.true ⌝ ∗ ⌜ side .bus .lost < 256 ⌝ }
     ensures { λ r. ⌜ r ≡ turned g side ⌝ }
 {
     let beam0 = side.beam;
@@ -368,7 +368,8 @@ pub fn turn_lit(side: Side, g: Controls) -> Turned
         g.yscroll,
     );
     let asked = asked_lit(beam.ba, phased.dma, beam0.kind, cycle);
-    let bus = clocked.arbitrate(asked);
+    let arbitrated = clocked.arbitrate(asked);
+    let bus = arbitrated.count(false);
     let sprite = phased.at(0);
     let mask = laws::has_bit(phased.dma, 0);
     let rowed = rows::turn_lit(rows0, cycle, beam.bad, beam.rising);
@@ -412,7 +413,7 @@ pub fn turn_lit(side: Side, g: Controls) -> Turned
 }
 
 pub fn turn_dark(side: Side, g: Controls) -> Turned
-    requires { ⌜ inRange (side .bus .clock) ⌝ ∗ ⌜ beforeGraphics (side .beam .cycle) ≡ Bool.false ⌝ }
+    requires { ⌜ inRange (side .bus .clock) ⌝ ∗ ⌜ beforeGraphics (side .beam .cycle) ≡ Bool.false ⌝ ∗ ⌜ side .bus .lost < 256 ⌝ }
     ensures { λ r. ⌜ r ≡ turned g side ⌝ }
 {
     let beam0 = side.beam;
@@ -455,7 +456,9 @@ pub fn turn_dark(side: Side, g: Controls) -> Turned
     );
     let asking = schedule::asking(place);
     let asked = arbitration::request(beam.ba, phased.dma, asking);
-    let bus = clocked.arbitrate(asked);
+    let arbitrated = clocked.arbitrate(asked);
+    let begins = schedule::line_begins(cycle);
+    let bus = arbitrated.count(begins);
     let k = schedule::sprite_at(place);
     let pointing = schedule::pointing(place);
     let fetching = schedule::fetching(place);

@@ -20,7 +20,7 @@ use Rattle.sprites.specs.declared.Sprites.{Sprites}
 use Rattle.sprites.specs.Sprites as Sprites
 use Rattle.arbitration.specs.declared.Bus.{Bus}
 use Rattle.arbitration.specs.Bus as Buses
-use Rattle.arbitration.specs.Set.{clock≔, fall≔, rise≔, aec≔, balow≔, aeclow≔}
+use Rattle.arbitration.specs.Set.{clock≔, fall≔, rise≔, aec≔, balow≔, aeclow≔, lost≔}
 use Rattle.rows.specs.Pending.{waits, pendingAfter}
 use Rattle.rows.specs.declared.Pending.the-variants.{Nothing}
 use Rattle.rows.specs.declared.Rows.{Rows}
@@ -65,12 +65,12 @@ unused flip = three (sprite 0 0 0) (sprite 3 0 0) (sprite 7 0 0) flip 0
 abbrev used : ℕ → Sprites
 used flip = three (sprite 0 63 63) (sprite 3 63 63) (sprite 7 63 63) flip 0
 
--- the clock and BA's edges, without a request; with sprite 3's of the last three cycles
+-- the clock and BA's edges, without a request; with sprite 3's of the last three cycles, where the line has lost 6 to sprites 7, 0 and 3
 abbrev free : ℕ → ℕ → ℕ → Bus
 free clock fall rise = clock≔ (pos clock) (fall≔ (pos fall) (rise≔ (pos rise) Buses.fresh))
 
 abbrev warned : ℕ → ℕ → ℕ → Bus
-warned clock fall rise = aec≔ (pos 0) (balow≔ true (free clock fall rise))
+warned clock fall rise = aec≔ (pos 0) (balow≔ true (lost≔ 6 (free clock fall rise)))
 
 abbrev row : ℕ → ℕ → ℕ → ℕ → Bool → Rows
 row vc vcbase rc vmli display = record { vc = vc; vcbase = vcbase; rc = rc; vmli = vmli; display = display; transition = false; access = false }
@@ -140,7 +140,7 @@ before8-59 =
 
 -- one tick, with all that it computes with: to unfold this is to unfold them
 unfoldable pub ticked : Controls → Side → Side
-unfolding kindOf slotAfterBus hasBit withBit withoutBit pick asked settled triggered happens pointerTime dataTime slotSprite maskAt Beams.badLine Beams.baOutput Beams.nextCycle Beams.atLastLine Beams.nextLine Beams.fresh Beams.latched Beams.beamTurned Borders.compared Borders.switched Borders.lineBegun Borders.lineEnded Borders.opened Borders.leftPassed Borders.leftPart Borders.left40Passed Borders.left38Passed Borders.right38Passed Borders.right40Passed Sprites.fresh Sprites.allFresh Sprites.spriteAt Sprites.upTo Sprites.crunched Sprites.nextBase Sprites.maskAfter Sprites.stepOne Sprites.mcbaseStepped Sprites.dmaBegun Sprites.startOne Sprites.started Sprites.firstPhased Sprites.secondPhased Sprites.loadOne Sprites.loaded Sprites.showOne Sprites.shown Sprites.mcLoaded Sprites.fetched Buses.fresh Buses.clockOn Buses.clocked Buses.spriteAsks Buses.requested Buses.aecAfter Buses.low Buses.arbitrated pendingAfter Frames.fresh Frames.matchRaises Frames.rasterBegun Frames.frameBegun Frames.frameEnded Frames.raised Frames.swept Rows.fresh Rows.vcAfter Rows.vmliAfter Rows.rcAfter Rows.accessAfter Rows.displayAfter Rows.rowed Phases.beginAt Phases.left40At Phases.left38At Phases.right38At Phases.right40At Phases.rememberAt Phases.endAt Phases.bordered Phases.stepAt Phases.firstAt Phases.secondAt Phases.loadAt Phases.phased Phases.slotMoved freshSide turned
+unfolding kindOf slotAfterBus hasBit withBit withoutBit pick asked settled triggered happens pointerTime dataTime slotSprite maskAt Beams.badLine Beams.baOutput Beams.nextCycle Beams.atLastLine Beams.nextLine Beams.fresh Beams.latched Beams.beamTurned Borders.compared Borders.switched Borders.lineBegun Borders.lineEnded Borders.opened Borders.leftPassed Borders.leftPart Borders.left40Passed Borders.left38Passed Borders.right38Passed Borders.right40Passed Sprites.fresh Sprites.allFresh Sprites.spriteAt Sprites.upTo Sprites.crunched Sprites.nextBase Sprites.maskAfter Sprites.stepOne Sprites.mcbaseStepped Sprites.dmaBegun Sprites.startOne Sprites.started Sprites.firstPhased Sprites.secondPhased Sprites.loadOne Sprites.loaded Sprites.showOne Sprites.shown Sprites.mcLoaded Sprites.fetched Buses.fresh Buses.clockOn Buses.clocked Buses.spriteAsks Buses.requested Buses.aecAfter Buses.low Buses.arbitrated Buses.lostAfter Buses.counted pendingAfter Frames.fresh Frames.matchRaises Frames.rasterBegun Frames.frameBegun Frames.frameEnded Frames.raised Frames.swept Rows.fresh Rows.vcAfter Rows.vmliAfter Rows.rcAfter Rows.accessAfter Rows.displayAfter Rows.rowed Phases.beginAt Phases.left40At Phases.left38At Phases.right38At Phases.right40At Phases.rememberAt Phases.endAt Phases.bordered Phases.stepAt Phases.firstAt Phases.secondAt Phases.loadAt Phases.phased Phases.slotMoved freshSide turned
 ticked g s = turned g s .side
 
 -- each from the one before

@@ -1,6 +1,6 @@
 -- An older scene as the next version: its number, the byte that it gets, what it keeps, and that bytes stay bytes. Assumes nothing.
-use Prim.Native.Nat.{ℕ, zero, suc, _+_, _<_}
-use mathlib.Core.Path.{_≡_, sym, ap, _∙_}
+use Prim.Native.Nat.{ℕ, zero, suc, _+_, _<_, _≤_}
+use mathlib.Core.Path.{_≡_, refl, sym, ap, _∙_}
 use mathlib.Core.Bool.{true}
 use mathlib.Core.List.{List, [], _∷_, _++_}
 use native.Mathlib.Omega.{arith}
@@ -8,7 +8,7 @@ use lib.Dec.{eqb}
 use lib.ListN.{length, set, length-append, length-set}
 use lib.Seq.{getD-set-same, getD-set-other, getD-at}
 use borrow.Author.Tests.{eq-eqb, ne-eqb, eqb-true}
-use Rattle.laws.proofs.Choice.{either, left, right}
+use Rattle.laws.proofs.Choice.{either, by-test, left, right}
 use Rattle.versions.specs.Versions.{byteAt, Bytes, isVersion, isNewest, grown, next, isFlagged, cleared, unflagged, third, renewed}
 use Rattle.versions.proofs.Listed.{front-listed}
 
@@ -18,6 +18,9 @@ pub grown-is : (v more : ℕ) (s : List ℕ) (n : ℕ) → 3 < length s → leng
 grown-is v more s n h e =
     let long : length (grown v more s) ≡ n = simp (length-set, length-append) e in
     rw (eq-eqb (length (grown v more s)) n long, getD-set-same (s ++ (more ∷ [])) 3 v 0 (simp length-append (omega arith)), eq-eqb v v)
+
+grown-long : (v more : ℕ) (s : List ℕ) → length (grown v more s) ≡ length s + 1
+grown-long v more s = simp (length-set, length-append)
 
 grown-last : (v more : ℕ) (s : List ℕ) (n : ℕ) → 3 < n → length s ≡ n → byteAt (grown v more s) n ≡ more
 grown-last v more s n h e = getD-set-other (s ++ (more ∷ [])) 3 n v 0 (λ (f : n ≡ 3). omega arith) ∙ getD-at s more [] 0 n e
@@ -52,7 +55,7 @@ unfolding renewed third
 renewed-bytes s b =
     let second = next 1 308 0 s in
     let fine : Bytes second = next-bytes 1 308 0 s (omega arith) (omega arith) b in
-    either Bytes (isFlagged second) (unflagged-bytes second fine) fine
+    next-bytes 3 309 0 (third second) (omega arith) (omega arith) (either Bytes (isFlagged second) (unflagged-bytes second fine) fine)
 
 pub has-size : (v size : ℕ) (s : List ℕ) → isVersion v size s ≡ true → length s ≡ size
 has-size v size s e = eqb-true (length s) size (left (eqb (length s) size) (eqb (byteAt s 3) v) e)
@@ -60,17 +63,31 @@ has-size v size s e = eqb-true (length s) size (left (eqb (length s) size) (eqb 
 pub has-number : (v size : ℕ) (s : List ℕ) → isVersion v size s ≡ true → byteAt s 3 ≡ v
 has-number v size s e = eqb-true (byteAt s 3) v (right (eqb (length s) size) (eqb (byteAt s 3) v) e)
 
+-- a list of another length stays as it is
+next-other : (v size more : ℕ) (s : List ℕ) → (length s ≡ size → ⊥) → next v size more s ≡ s
+unfolding next
+next-other v size more s ne = rw (ne-eqb (length s) size ne)
+
+third-other : (s : List ℕ) → (length s ≡ 309 → ⊥) → third s ≡ s
+unfolding third isFlagged
+third-other s ne = rw (ne-eqb (length s) 309 ne)
+
 -- renewing the newest is the identity
 pub renewed-newest : (s : List ℕ) → isNewest s ≡ true → renewed s ≡ s
-unfolding renewed next third isFlagged
+unfolding renewed
 renewed-newest s e =
-    let size : length s ≡ 309 = has-size 3 309 s e in
-    let number : byteAt s 3 ≡ 3 = has-number 3 309 s e in
-    rw (ne-eqb (length s) 308 (λ (f : length s ≡ 308). omega arith), eq-eqb (length s) 309 size, ne-eqb (byteAt s 3) 2 (λ (f : byteAt s 3 ≡ 2). omega arith))
+    let size : length s ≡ 310 = has-size 4 310 s e in
+    ap (λ (l : List ℕ). next 3 309 0 (third l)) (next-other 1 308 0 s (λ (f : length s ≡ 308). omega arith))
+    ∙ ap (next 3 309 0) (third-other s (λ (f : length s ≡ 309). omega arith))
+    ∙ next-other 3 309 0 s (λ (f : length s ≡ 309). omega arith)
 
 -- ---- what the loss of the flags leaves
 
-pub unflagged-is : (s : List ℕ) → length s ≡ 309 → isNewest (unflagged s) ≡ true
+unflagged-long : (s : List ℕ) → length (unflagged s) ≡ length s
+unfolding unflagged
+unflagged-long s = simp length-set
+
+pub unflagged-is : (s : List ℕ) → length s ≡ 309 → isVersion 3 309 (unflagged s) ≡ true
 unfolding unflagged
 unflagged-is s h =
     rw (eq-eqb (length (unflagged s)) 309 (simp length-set h)) (ap (λ (l : List ℕ). eqb (byteAt (unflagged l) 3) 3) (sym (front-listed 0 s 309 (omega arith))))
@@ -83,12 +100,57 @@ unflagged-308 : (s : List ℕ) → length s ≡ 309 → byteAt (unflagged s) 308
 unfolding unflagged
 unflagged-308 s h = ap (λ (l : List ℕ). byteAt (unflagged l) 308) (sym (front-listed 0 s 309 (omega arith)))
 
--- version 1 gets the 6569's kind, and keeps it with the loss of the flags
+pub third-long : (s : List ℕ) → length (third s) ≡ length s
+unfolding third
+third-long s = either (λ (l : List ℕ). length l ≡ length s) (isFlagged s) (unflagged-long s) refl
+
+-- ---- what the number of lost cycles leaves
+
+grown-308 : (s : List ℕ) → length s ≡ 309 → byteAt (grown 4 0 s) 308 ≡ byteAt s 308
+grown-308 s h = ap (λ (l : List ℕ). byteAt (grown 4 0 l) 308) (sym (front-listed 0 s 309 (omega arith)))
+
+fourth-308 : (s : List ℕ) → length s ≡ 309 → byteAt (next 3 309 0 s) 308 ≡ byteAt s 308
+unfolding next
+fourth-308 s h = either (λ (l : List ℕ). byteAt l 308 ≡ byteAt s 308) (isVersion 3 309 s) (grown-308 s h) refl
+
+pub fourth-71 : (s : List ℕ) → length s ≡ 309 → byteAt (next 3 309 0 s) 71 ≡ byteAt s 71
+unfolding next
+fourth-71 s h =
+    either (λ (l : List ℕ). byteAt l 71 ≡ byteAt s 71) (isVersion 3 309 s)
+    (ap (λ (l : List ℕ). byteAt (grown 4 0 l) 71) (sym (front-listed 0 s 309 (omega arith)))) refl
+
+third-308 : (s : List ℕ) → length s ≡ 309 → byteAt (third s) 308 ≡ byteAt s 308
+unfolding third
+third-308 s h = either (λ (l : List ℕ). byteAt l 308 ≡ byteAt s 308) (isFlagged s) (unflagged-308 s h) refl
+
+first-grows : (s : List ℕ) → isVersion 1 308 s ≡ true → next 1 308 0 s ≡ grown 2 0 s
+unfolding next
+first-grows s v = rw v
+
+-- version 1 gets the 6569's kind, and keeps it
 pub first-is-6569 : (s : List ℕ) → isVersion 1 308 s ≡ true → byteAt (renewed s) 308 ≡ 0
-unfolding renewed next third
+unfolding renewed
 first-is-6569 s v =
     let size : length s ≡ 308 = has-size 1 308 s v in
     let second : List ℕ = grown 2 0 s in
     let long : length second ≡ 309 = has-size 2 309 second (grown-is 2 0 s 309 (omega arith) (omega arith)) in
     let last : byteAt second 308 ≡ 0 = grown-last 2 0 s 308 (omega arith) size in
-    rw v (either (λ (l : List ℕ). byteAt l 308 ≡ 0) (isFlagged second) (unflagged-308 second long ∙ last) last)
+    rw (first-grows s v) (fourth-308 (third second) (third-long second ∙ long) ∙ third-308 second long ∙ last)
+
+-- what is shorter than the newest stays shorter up to version 3
+second-most : (s : List ℕ) → length s ≤ 309 → length (next 1 308 0 s) ≤ 309
+unfolding next
+second-most s short = by-test (λ (l : List ℕ). length l ≤ 309) (isVersion 1 308 s) (λ e. omega (arith, grown-long 2 0 s, has-size 1 308 s e)) (λ e. short)
+
+fourth-lost : (s : List ℕ) → length s ≤ 309 → isNewest (next 3 309 0 s) ≡ true → byteAt (next 3 309 0 s) 309 ≡ 0
+unfolding next
+fourth-lost s short new =
+    by-test (λ (l : List ℕ). isNewest l ≡ true → byteAt l 309 ≡ 0) (isVersion 3 309 s)
+    (λ e f. grown-last 4 0 s 309 (omega arith) (has-size 3 309 s e))
+    (λ e f. absurd (omega (arith, has-size 4 310 s f, short)))
+    new
+
+-- 02 (xi): an older scene's line has lost no cycle
+pub older-has-lost-none : (s : List ℕ) → length s ≤ 309 → isNewest (renewed s) ≡ true → byteAt (renewed s) 309 ≡ 0
+unfolding renewed
+older-has-lost-none s short new = fourth-lost (third (next 1 308 0 s)) (omega (arith, third-long (next 1 308 0 s), second-most s short)) new

@@ -1,3 +1,4 @@
 pub mod History
 pub mod Why
 pub mod Chart
+pub mod Lost

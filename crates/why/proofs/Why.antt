@@ -9,11 +9,12 @@ use lib.IntN.{ℤ, pos, negsuc}
 use lib.ListN.{length}
 use Rattle.laws.proofs.Choice.{either, under}
 use Rattle.memory.specs.Lent.{Host}
+use Rattle.schedule.specs.Diagram.{happens, lineBegins}
 use Rattle.timing.specs.Beam.{beamTurned}
 use Rattle.sprites.specs.declared.Sprites.{Sprites}
 use Rattle.sprites.specs.Sprites.{fetched}
 use Rattle.arbitration.specs.declared.Bus.{Bus}
-use Rattle.arbitration.specs.Bus.{down, aecAfter, low, Counted, clocked, arbitrated}
+use Rattle.arbitration.specs.Bus.{down, aecAfter, low, Counted, clocked, arbitrated, lostAfter, counted}
 use Rattle.arbitration.proofs.Kept.{aec-kept}
 use Rattle.rows.specs.declared.Pending.{Pending}
 use Rattle.rows.specs.declared.Pending.the-variants.{Nothing, At}
@@ -42,41 +43,46 @@ unfolding slotMoved fetched
 slot-dma pointing fetching n s = simp (mask-of, either-way)
 
 -- the slot moves no mask, so that the request is read off the chip after the tick
-pub arbitration-found : (h : Host) (c : Chip) → tickOf h c .side .bus ≡ arbitrated (clocked 1 (c .side .bus)) (asked (tickOf h c))
+pub arbitration-found : (h : Host) (c : Chip) → tickOf h c .side .bus ≡ counted (happens lineBegins (tickOf h c .side .beam .cycle)) (arbitrated (clocked 1 (c .side .bus)) (asked (tickOf h c)))
 unfolding asked tickWorld turned beamTurned
 arbitration-found h c = rw slot-dma
 
 pub asked-is-low : (h : Host) (c : Chip) → tickOf h c .side .bus .balow ≡ asked (tickOf h c)
-unfolding arbitrated
+unfolding arbitrated counted
 asked-is-low h c = ap (λ (b : Bus). b .balow) (arbitration-found h c)
 
 pub counts : (h : Host) (c : Chip) → tickOf h c .side .bus .aec ≡ aecAfter (c .side .bus .aec) (asked (tickOf h c))
-unfolding arbitrated clocked
+unfolding arbitrated clocked counted
 counts h c = ap (λ (b : Bus). b .aec) (arbitration-found h c)
 
 pub falls : (h : Host) (c : Chip) → tickOf h c .side .bus .aeclow ≡ low (tickOf h c .side .bus .aec)
-unfolding tickWorld turned arbitrated
+unfolding tickWorld turned arbitrated counted
 falls h c = refl
+
+-- 02 (xi): what a tick adds to the lost cycles goes by the cycle and the AEC flag that it leaves
+pub loses : (h : Host) (c : Chip) → tickOf h c .side .bus .lost ≡ lostAfter (happens lineBegins (tickOf h c .side .beam .cycle)) (tickOf h c .side .bus .aeclow) (c .side .bus .lost)
+unfolding tickWorld turned beamTurned arbitrated clocked counted
+loses h c = refl
 
 -- ---- every other call leaves the bus as it was
 
+-- what a tick adds to is empty where the whole is, and then the chip is as it was
+pub tick-same : (h : Host) (c : Chip) (past : List Chip) → tickAdds h c past ≡ [] → (past ≡ []) × (ticked h c .chip ≡ c)
+tick-same h c past e = by-refusal (eqb (ticked h c .refused) 0) refl
+  where
+    by-refusal : (b : Bool) → eqb (ticked h c .refused) 0 ≡ b → (past ≡ []) × (ticked h c .chip ≡ c)
+    by-refusal true t = let z : _≡_ {A = ℕ} 0 1 = cc (accepted-adds-one h c past t) in absurd (omega arith)
+    by-refusal false t = (sym (refused-adds-none h c past t) ∙ e, refused h c t)
+
+pub ticks-same : (h : Host) (n : ℕ) (c : Chip) → ticksAdd h n c [] ≡ [] → ticksFrom h n c .chip ≡ c
+unfolding ticksAdd ticksFrom
+ticks-same h zero c e = refl
+ticks-same h (suc n) c e =
+    let both = tick-same h (ticksFrom h n c .chip) (ticksAdd h n c []) e in
+    one-more h n c ∙ both .1 ∙ ticks-same h n c (both .0)
+
 abbrev SameBus : Chip → Answer → Type 0
 SameBus c a = a .chip .side .bus ≡ c .side .bus
-
--- what a tick adds to is empty where the whole is
-tick-bus : (h : Host) (c : Chip) (past : List Chip) → tickAdds h c past ≡ [] → (past ≡ []) × SameBus c (ticked h c)
-tick-bus h c past e = by-refusal (eqb (ticked h c .refused) 0) refl
-  where
-    by-refusal : (b : Bool) → eqb (ticked h c .refused) 0 ≡ b → (past ≡ []) × SameBus c (ticked h c)
-    by-refusal true t = let z : _≡_ {A = ℕ} 0 1 = cc (accepted-adds-one h c past t) in absurd (omega arith)
-    by-refusal false t = (sym (refused-adds-none h c past t) ∙ e, ap (λ (d : Chip). d .side .bus) (refused h c t))
-
-ticks-bus : (h : Host) (n : ℕ) (c : Chip) → ticksAdd h n c [] ≡ [] → SameBus c (ticksFrom h n c)
-unfolding ticksAdd ticksFrom
-ticks-bus h zero c e = refl
-ticks-bus h (suc n) c e =
-    let both = tick-bus h (ticksFrom h n c .chip) (ticksAdd h n c []) e in
-    ap (λ (d : Chip). d .side .bus) (one-more h n c) ∙ both .1 ∙ ticks-bus h n c (both .0)
 
 late-bus : (c : Chip) (byte : ℕ) (p : Pending) → lateAt c byte p .side .bus ≡ c .side .bus
 late-bus c byte Nothing = refl
@@ -85,8 +91,8 @@ late-bus c byte (At p) = refl
 -- one that has no accepted tick in it
 pub only-ticks-touch-the-bus : (x : Call) (c : Chip) → adds x c [] ≡ [] → SameBus c (done x c)
 unfolding done adds registerWritten fileWritten expandAt comparesBy control1Written control2Written controlStored controlsPlaced lateTaken
-only-ticks-touch-the-bus (tick h) c e = tick-bus h c [] e .1
-only-ticks-touch-the-bus (ticks h n) c e = ticks-bus h n c e
+only-ticks-touch-the-bus (tick h) c e = ap (λ (d : Chip). d .side .bus) (tick-same h c [] e .1)
+only-ticks-touch-the-bus (ticks h n) c e = ap (λ (d : Chip). d .side .bus) (ticks-same h n c e)
 only-ticks-touch-the-bus (write addr v) c e = either (λ (d : Chip). d .side .bus ≡ c .side .bus) (isExpand addr) refl refl
 only-ticks-touch-the-bus (expand v) c e = refl
 only-ticks-touch-the-bus compares c e = refl
@@ -140,10 +146,10 @@ by-requests z h true true true false = refl
 by-requests z h true true true true = four-down z h
 
 module _ {A : Type 0} (asks : A → Bool) where
-  counted : (past : List A) → Counted (counterFrom asks (pos 3) past)
+  within : (past : List A) → Counted (counterFrom asks (pos 3) past)
   unfolding counterFrom
-  counted [] = omega arith
-  counted (t ∷ past) = aec-kept (counterFrom asks (pos 3) past) (asks t) (counted past)
+  within [] = omega arith
+  within (t ∷ past) = aec-kept (counterFrom asks (pos 3) past) (asks t) (within past)
 
   -- a start with 3 is as if nobody had asked before it
   pub four : (past : List A) → low (counterFrom asks (pos 3) past) ≡ lastFour asks past
@@ -152,7 +158,7 @@ module _ {A : Type 0} (asks : A → Bool) where
   four (a ∷ []) = by-requests (pos 3) (omega arith) (asks a) false false false
   four (a ∷ b ∷ []) = by-requests (pos 3) (omega arith) (asks a) (asks b) false false
   four (a ∷ b ∷ c ∷ []) = by-requests (pos 3) (omega arith) (asks a) (asks b) (asks c) false
-  four (a ∷ b ∷ c ∷ d ∷ past) = by-requests (counterFrom asks (pos 3) past) (counted past) (asks a) (asks b) (asks c) (asks d)
+  four (a ∷ b ∷ c ∷ d ∷ past) = by-requests (counterFrom asks (pos 3) past) (within past) (asks a) (asks b) (asks c) (asks d)
 
 pub by-the-last-four : ByTheLastFour
 by-the-last-four xs c three some =

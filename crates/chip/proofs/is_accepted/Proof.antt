@@ -34,9 +34,12 @@ last-cycle-requires c κs = search needs
 last-line-requires : tie.Need-last-line-requires
 last-line-requires c κs = search needs
 
+cast-result : tie.Need-cast-result
+cast-result c = search needs
+
 returns : tie.Need-returns
 returns c =
-    let bottom = c .before .before .before .before .before .before .before in
+    let bottom = c .before .before .before .before .before .before .before .before .before in
     let wide = bottom .before .before .before in
     let place = wide .before .before .before in
     let forced = place .before in
@@ -69,4 +72,5 @@ is-accepted-spec =
     is-known-requires
     last-cycle-requires
     last-line-requires
+    cast-result
     returns)

@@ -18,9 +18,9 @@ page r at = record { run = r; at = at }
 unfoldable pub begunOf : ℕ → Page
 begunOf kind = page (driveBegun kind) 0
 
--- where 40 of the block's 65,536 bytes are not free, the block is written out
+-- where 46 of the block's 65,536 bytes are not free, the block is written out
 unfoldable pub roomed : Page → Page
-roomed p = cond (leb (p .at) 65496) p (page (p .run) 0)
+roomed p = cond (leb (p .at) 65490) p (page (p .run) 0)
 
 abbrev pub pageBy : Page → Made → Page
 pageBy p x = page (x .run) (p .at + length (textOf x))

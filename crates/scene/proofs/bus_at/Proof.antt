@@ -24,8 +24,23 @@ shared-slice-read-t9 c = search needs
 shared-slice-read-t12 : tie.Need-shared-slice-read-t12
 shared-slice-read-t12 c = search needs
 
+shared-slice-read-wide : tie.Need-shared-slice-read-wide
+shared-slice-read-wide c = search needs
+
+wide-requires : tie.Need-wide-requires
+wide-requires c κs = search needs
+
+cast-t17 : tie.Need-cast-t17
+cast-t17 c = search needs
+
 returns : tie.Need-returns
-returns c = rw (back8 (c .before .before .count-of .result) (c .before .before .count-of .ok), back64 (c .before .before .before .before .clock-at3 .result) (c .before .before .before .before .clock-at3 .ok), back64 (c .before .before .before .before .before .clock-at2 .result) (c .before .before .before .before .before .clock-at2 .ok), back64 (c .before .before .before .before .before .before .clock-at .result) (c .before .before .before .before .before .before .clock-at .ok)) (simp (c .before .before .count-of .ensures, c .before .before .before .before .clock-at3 .ensures, c .before .before .before .before .before .clock-at2 .ensures, c .before .before .before .before .before .before .clock-at .ensures))
+returns c =
+    let count = c .before .before .before .before .count-of in
+    let rise = c .before .before .before .before .before .before .clock-at3 in
+    let fall = c .before .before .before .before .before .before .before .clock-at2 in
+    let clock = c .before .before .before .before .before .before .before .before .clock-at in
+    rw (back8 (count .result) (count .ok), back64 (rise .result) (rise .ok), back64 (fall .result) (fall .ok), back64 (clock .result) (clock .ok))
+    (simp (count .ensures, rise .ensures, fall .ensures, clock .ensures, c .wide .ensures))
 
 pub bus-at-spec : {M : Type 1} → statement M
 bus-at-spec =
@@ -38,4 +53,7 @@ bus-at-spec =
     count-of-requires
     shared-slice-read-t9
     shared-slice-read-t12
+    shared-slice-read-wide
+    wide-requires
+    cast-t17
     returns)

@@ -22,22 +22,22 @@ unflag-requires c κs =
     let flagged : isFlagged bytes ≡ true = sym (c .before .before .is-flagged .ensures) ∙ c .before .if1 .taken in
     (has-size 2 309 bytes (left (isVersion 2 309 bytes) (spriteFlags bytes) flagged), search needs)
 
-slice-aggregate-decode-newest : tie.Need-slice-aggregate-decode-newest
-slice-aggregate-decode-newest c = search needs
+slice-aggregate-decode-third : tie.Need-slice-aggregate-decode-third
+slice-aggregate-decode-third c = search needs
 
-decode-newest-requires : tie.Need-decode-newest-requires
-decode-newest-requires c κs = search needs
+decode-third-requires : tie.Need-decode-third-requires
+decode-third-requires c κs = search needs
 
 returns : tie.Need-returns
 unfolding third
-returns c = simp (c .decode-newest .ensures, c .before .before .before .unflag .ensures, sym (c .before .before .before .before .before .before .is-flagged .ensures) ∙ c .before .before .before .before .before .if1 .taken)
+returns c = simp (c .decode-third .ensures, c .before .before .before .unflag .ensures, sym (c .before .before .before .before .before .before .is-flagged .ensures) ∙ c .before .before .before .before .before .if1 .taken)
 
-decode-newest-requires-2 : tie.Need-decode-newest-requires-2
-decode-newest-requires-2 c κs = search needs
+decode-third-requires-2 : tie.Need-decode-third-requires-2
+decode-third-requires-2 c κs = search needs
 
 returns-2 : tie.Need-returns-2
 unfolding third
-returns-2 c = simp (c .decode-newest2 .ensures, sym (c .before .before .is-flagged .ensures) ∙ c .before .if1 .left)
+returns-2 c = simp (c .decode-third2 .ensures, sym (c .before .before .is-flagged .ensures) ∙ c .before .if1 .left)
 
 pub decode-second-spec : {M : Type 1} → statement M
 decode-second-spec =
@@ -46,8 +46,8 @@ decode-second-spec =
     is-flagged-requires
     slice-aggregate-unflag
     unflag-requires
-    slice-aggregate-decode-newest
-    decode-newest-requires
+    slice-aggregate-decode-third
+    decode-third-requires
     returns
-    decode-newest-requires-2
+    decode-third-requires-2
     returns-2)

@@ -1,5 +1,5 @@
 use mathlib.Core.Path.{refl, ap}
-use Prim.Native.Nat.{ℕ}
+use Prim.Native.Nat.{ℕ, _%_}
 use mathlib.Core.List.{[], _∷_}
 use Rattle.versions.proofs.Parts.{put-as}
 use borrow.Author.Needs.{needs}
@@ -8,6 +8,9 @@ use Rattle.scene.proofs.put_tail.Tie as tie
 
 place-byte-requires : tie.Need-place-byte-requires
 place-byte-requires c κs = search needs
+
+cast-t8 : tie.Need-cast-t8
+cast-t8 c = search needs
 
 slice-aggregate-put : tie.Need-slice-aggregate-put
 slice-aggregate-put c = search needs
@@ -20,9 +23,9 @@ same-length c = search needs
 
 returns : tie.Need-returns
 returns c =
-    let kind = c .before .before .before .before .before .before .before .args .kind in
-    put-as _ 309 (c .before .before .put .ensures) (ap (λ (x : ℕ). x ∷ kind ∷ []) (c .before .before .before .before .before .place-byte .ensures)) refl
+    let start = c .before .before .before .before .before .before .before .args in
+    put-as _ 310 (c .before .before .put .ensures) (ap (λ (x : ℕ). x ∷ start .kind ∷ start .lost % 256 ∷ []) (c .before .before .before .before .before .place-byte .ensures)) refl
 
 pub put-tail-spec : {M : Type 1} → statement M
 put-tail-spec =
-    tie.close (tie.spec place-byte-requires slice-aggregate-put put-requires same-length returns)
+    tie.close (tie.spec place-byte-requires cast-t8 slice-aggregate-put put-requires same-length returns)

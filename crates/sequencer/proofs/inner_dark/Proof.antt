@@ -13,7 +13,7 @@ timed-requires c κs = search needs
 turn-dark-requires : tie.Need-turn-dark-requires
 turn-dark-requires c κs =
     let start = c .before .before .before .before .before .before .before .before .before .before in
-    (can-range (start .args .core .side .bus .clock) (start .pre .0 .clock), start .pre .1)
+    (can-range (start .args .core .side .bus .clock) (start .pre .0 .clock), (start .pre .1, start .pre .0 .lost))
 
 slot-requires : tie.Need-slot-requires
 slot-requires c κs =

@@ -20,7 +20,7 @@ timed-requires c κs = search needs
 turn-lit-requires : tie.Need-turn-lit-requires
 turn-lit-requires c κs =
     let start = c .before .before .before .before .before .before .before .before .before .before in
-    (can-range (start .args .core .side .bus .clock) (start .pre .0 .clock), start .pre .1)
+    (can-range (start .args .core .side .bus .clock) (start .pre .0 .clock), (start .pre .1, start .pre .0 .lost))
 
 mode-requires : tie.Need-mode-requires
 mode-requires c κs = search needs

@@ -16,7 +16,7 @@ use Rattle.chip.specs.Accept.{accepted}
 use Rattle.sequencer.specs.World.{World, chipOf}
 use Rattle.sequencer.specs.Tick.{ticksFrom}
 
--- what a step of a run may lean on: the lent lengths, the arrays' lengths, and clocks whose difference fits
+-- what a step of a run may lean on: the lent lengths, the arrays' lengths, clocks whose difference fits, and a count that can go on
 pub record Ready (h : Host) (w : World) : Type 0 where
   pub lent : Lent (h .ram) (h .rom)
   pub colour : length (h .colour) ≡ 1024
@@ -26,6 +26,7 @@ pub record Ready (h : Host) (w : World) : Type 0 where
   pub eightWords : length (w .words) ≡ 8
   pub clock : canTick (w .side .bus .clock)
   pub forced : inRange (w .pen .forced)
+  pub lost : w .side .bus .lost < 256
 
 -- what a run holds from tick to tick: nothing lent is refused, the arrays keep their lengths, the state is accepted
 pub record Held (h : Host) (g : Registers) (w : World) : Type 0 where

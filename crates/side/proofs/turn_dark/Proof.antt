@@ -2,6 +2,7 @@ use mathlib.Core.Path.{_∙_}
 use Rattle.schedule.specs.Kind.{kindOf}
 use Rattle.schedule.proofs.Places.{mask-at, pointing-at, fetching-at, sprite-at, sprite-small}
 use Rattle.timing.proofs.Kept.{cycle-small}
+use Rattle.arbitration.proofs.Kept.{arbitrated-lost, clocked-lost}
 use Rattle.side.proofs.Glue.{turn-glue}
 use Rattle.side.proofs.Parts.{placed, lit-now}
 use borrow.Author.Needs.{needs}
@@ -26,7 +27,7 @@ border-dark-requires c κs =
     let k = kindOf (start .args .side .beam .kind) in
     let before = start .args .side .beam .cycle in
     let next = c .before .before .before .before .next-cycle .ensures in
-    (rw next (cycle-small k before), lit-now k before next (start .pre .1))
+    (rw next (cycle-small k before), lit-now k before next (start .pre .1 .0))
 
 sprites-dark-requires : tie.Need-sprites-dark-requires
 sprites-dark-requires c κs =
@@ -34,7 +35,7 @@ sprites-dark-requires c κs =
     let k = kindOf (start .args .side .beam .kind) in
     let before = start .args .side .beam .cycle in
     let next = c .before .before .before .before .before .next-cycle .ensures in
-    (placed k before next (c .before .before .before .before .place .ensures), lit-now k before next (start .pre .1))
+    (placed k before next (c .before .before .before .before .place .ensures), lit-now k before next (start .pre .1 .0))
 
 turn-requires-2 : tie.Need-turn-requires-2
 turn-requires-2 c κs = search needs
@@ -47,6 +48,14 @@ request-requires c κs = search needs
 
 arbitrate-requires : tie.Need-arbitrate-requires
 arbitrate-requires c κs = search needs
+
+line-begins-requires : tie.Need-line-begins-requires
+line-begins-requires c κs = search needs
+
+count-requires : tie.Need-count-requires
+count-requires c κs =
+    let start = c .before .before .before .before .before .before .before .before .before .before .before .before .before .before .before .before .before .before .before .before .before .before in
+    rw (c .before .arbitrate .ensures, arbitrated-lost, c .before .before .before .before .before .before .before .before .before .before .before .before .clocked .ensures, clocked-lost) (start .pre .1 .1)
 
 sprite-at-requires : tie.Need-sprite-at-requires
 sprite-at-requires c κs = search needs
@@ -73,27 +82,29 @@ pick-bool-requires : tie.Need-pick-bool-requires
 pick-bool-requires c κs = search needs
 
 turn-dark-requires : tie.Need-turn-dark-requires
-turn-dark-requires c κs = rw (c .before .before .before .before .before .before .before .before .before .before .before .before .before .before .before .before .before .before .next-cycle .ensures) (cycle-small _ _)
+turn-dark-requires c κs = rw (c .before .before .before .before .before .before .before .before .before .before .before .before .before .before .before .before .before .before .before .before .next-cycle .ensures) (cycle-small _ _)
 
 next-pending-requires : tie.Need-next-pending-requires
 next-pending-requires c κs = search needs
 
 returns : tie.Need-returns
 returns c =
-    let start = c .before .before .before .before .before .before .before .before .before .before .before .before .before .before .before .before .before .before .before .before .before .before .before .before .before .before .before .before .before .before .before .before .before .before .before .before .before .before .args in
+    let start = c .before .before .before .before .before .before .before .before .before .before .before .before .before .before .before .before .before .before .before .before .before .before .before .before .before .before .before .before .before .before .before .before .before .before .before .before .before .before .before .before .args in
     let k = kindOf (start .side .beam .kind) in
-    let next = c .before .before .before .before .before .before .before .before .before .before .before .before .before .before .before .before .before .before .before .before .before .before .before .before .before .before .before .next-cycle .ensures in
-    let on = placed k (start .side .beam .cycle) next (c .before .before .before .before .before .before .before .before .before .before .before .before .before .before .before .before .before .before .before .before .before .before .before .before .before .before .place .ensures) in
+    let next = c .before .before .before .before .before .before .before .before .before .before .before .before .before .before .before .before .before .before .before .before .before .before .before .before .before .before .before .before .before .next-cycle .ensures in
+    let on = placed k (start .side .beam .cycle) next (c .before .before .before .before .before .before .before .before .before .before .before .before .before .before .before .before .before .before .before .before .before .before .before .before .before .before .before .before .place .ensures) in
     turn-glue (start .g) (start .side)
-    (c .before .before .before .before .before .before .before .before .before .before .before .before .before .before .before .before .before .before .before .before .before .before .before .before .before .before .before .before .clocked .ensures)
+    (c .before .before .before .before .before .before .before .before .before .before .before .before .before .before .before .before .before .before .before .before .before .before .before .before .before .before .before .before .before .before .clocked .ensures)
     next
-    (c .before .before .before .before .before .before .before .before .before .before .before .before .before .before .before .before .before .before .before .before .before .before .before .before .before .turn .ensures)
-    (c .before .before .before .before .before .before .before .before .before .before .before .before .before .before .before .before .before .before .before .before .before .before .border-dark .ensures)
-    (c .before .before .before .before .before .before .before .before .before .before .before .before .before .before .before .before .before .before .before .before .before .sprites-dark .ensures)
-    (c .before .before .before .before .before .before .before .before .before .before .before .before .before .before .before .before .before .before .before .before .turn2 .ensures)
-    (c .before .before .before .before .before .before .before .before .before .before .before .before .before .before .before .before .before .before .before .asking .ensures ∙ mask-at k on)
-    (c .before .before .before .before .before .before .before .before .before .before .before .before .before .before .before .before .before .before .request .ensures)
-    (c .before .before .before .before .before .before .before .before .before .before .before .before .before .before .before .before .before .arbitrate .ensures)
+    (c .before .before .before .before .before .before .before .before .before .before .before .before .before .before .before .before .before .before .before .before .before .before .before .before .before .before .before .turn .ensures)
+    (c .before .before .before .before .before .before .before .before .before .before .before .before .before .before .before .before .before .before .before .before .before .before .before .before .border-dark .ensures)
+    (c .before .before .before .before .before .before .before .before .before .before .before .before .before .before .before .before .before .before .before .before .before .before .before .sprites-dark .ensures)
+    (c .before .before .before .before .before .before .before .before .before .before .before .before .before .before .before .before .before .before .before .before .before .before .turn2 .ensures)
+    (c .before .before .before .before .before .before .before .before .before .before .before .before .before .before .before .before .before .before .before .before .before .asking .ensures ∙ mask-at k on)
+    (c .before .before .before .before .before .before .before .before .before .before .before .before .before .before .before .before .before .before .before .before .request .ensures)
+    (c .before .before .before .before .before .before .before .before .before .before .before .before .before .before .before .before .before .before .before .arbitrate .ensures)
+    (c .before .before .before .before .before .before .before .before .before .before .before .before .before .before .before .before .before .before .line-begins .ensures)
+    (c .before .before .before .before .before .before .before .before .before .before .before .before .before .before .before .before .before .count .ensures)
     (c .before .before .before .before .before .before .before .before .before .before .before .before .before .before .before .before .sprite-at .ensures ∙ sprite-at k on)
     (c .before .before .before .before .before .before .before .before .before .before .before .before .before .before .before .pointing .ensures ∙ pointing-at k on)
     (c .before .before .before .before .before .before .before .before .before .before .before .before .before .before .fetching .ensures ∙ fetching-at k on)
@@ -119,6 +130,8 @@ turn-dark-spec =
     asking-requires
     request-requires
     arbitrate-requires
+    line-begins-requires
+    count-requires
     sprite-at-requires
     pointing-requires
     fetching-requires
