@@ -17,6 +17,8 @@ pub fn accepted(s: &State) -> bool {
         && s.vmli <= vmli_limit(s.cycle)
         && clock_in_range(s.clock)
         && clock_in_range(s.forced_clock)
+        // A line has lost no more cycles than it had (02 (xi)).
+        && u16::from(s.lost) <= s.cycle
         && s.sprites.iter().enumerate().all(|(k, sprite)| sprite.number as usize == k && sprite.mc <= 63 && sprite.base <= 63)
 }
 

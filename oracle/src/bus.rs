@@ -1,4 +1,4 @@
-//! The program `bus` of docs/FORMATS.md, on any chip: what each tick of a run file reads (02 (viii)).
+//! The program `bus` of docs/FORMATS.md, on any chip: what each tick of a run file reads (02 (viii)), and the cycles lost (02 (xi)).
 
 use crate::chip::Chip;
 use crate::late::Met;
@@ -15,10 +15,10 @@ pub fn bus<C: Chip>(bytes: &[u8], output: &mut impl Write, make: impl FnOnce(Mem
     })
 }
 
-/// Where the beam is after the tick, and each read with its reason's word.
+/// Where the beam is after the tick, how many cycles its line has lost, and each read with its reason's word.
 fn line(chip: &impl Chip, output: &mut impl Write) -> io::Result<()> {
     let s = chip.state();
-    write!(output, "{} {}", s.cycle, s.raster)?;
+    write!(output, "{} {} {}", s.cycle, s.raster, s.lost)?;
     for (reason, address) in chip.reads().iter() {
         write!(output, " {} {address:04X}", reason.word())?;
     }

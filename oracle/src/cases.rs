@@ -6,7 +6,7 @@ use crate::memory::Memory;
 use crate::model::Model;
 use crate::replay::*;
 use crate::rng::Rng;
-use crate::scene::{fields, flag_at, Sort, State, HEAD, SCENE};
+use crate::scene::{fields, flag_at, Sort, State, HEAD, SCENE, WITHOUT_KIND, WITHOUT_LOST};
 use crate::states::*;
 use crate::vic::glue::Machine;
 use crate::walk::Walker;
@@ -231,14 +231,14 @@ enum End {
     Head(usize),
     /// Another version of the scene, with its length: an old one, which `replay` does not take, or one to come.
     Version(u8, usize),
-    /// The version before, with flags.
+    /// Version 2, with flags.
     Flagged,
     Cut,
 }
 
 /// Every end, so that each comes in its turn.
 fn all_ends() -> Vec<End> {
-    let mut all = vec![End::Past(0, POWER_UP + 1, 255), End::Past(0, RETIRED, RETIRED)];
+    let mut all = vec![End::Past(0, CYCLES_LOST + 1, 255), End::Past(0, RETIRED, RETIRED)];
     all.extend(fields().into_iter().filter_map(|field| match field.sort {
         Sort::Number | Sort::Signed => None,
         Sort::Flag => Some(End::Past(6 + field.offset, 2, 255)),
@@ -247,7 +247,10 @@ fn all_ends() -> Vec<End> {
         Sort::Zero => Some(End::Past(6 + field.offset, 1, 255)),
     }));
     all.extend((0..HEAD.len()).map(End::Head));
-    all.extend([End::Version(1, SCENE - 1), End::Version(1, SCENE), End::Version(2, SCENE), End::Version(4, SCENE), End::Flagged, End::Cut]);
+    let own = [(1, WITHOUT_KIND), (2, WITHOUT_LOST), (3, WITHOUT_LOST)];
+    all.extend(own.map(|(version, length)| End::Version(version, length)));
+    all.extend([1, 2, 3, 5].map(|version| End::Version(version, SCENE)));
+    all.extend([End::Flagged, End::Cut]);
     all
 }
 
@@ -270,6 +273,7 @@ fn spoil(r: &mut Rng, end: End, round: usize, case: &mut Vec<u8>) {
             case[6 + HEAD.len() - 1] = 2;
             let flags = r.within(1, 255) as u8;
             (0..8).for_each(|k| case[6 + flag_at(k)] = flags >> k & 1);
+            case.truncate(6 + WITHOUT_LOST);
         }
         End::Cut => case.truncate(r.within(1, CASE as i64 - 1) as usize),
     }

@@ -174,6 +174,9 @@ impl Chip for Beside<'_> {
     fn sprites_with_dma(&self) -> u8 {
         self.judges.original.sprites_with_dma()
     }
+    fn cycles_lost(&self) -> u8 {
+        self.judges.original.cycles_lost()
+    }
     fn late(&self) -> u64 {
         self.judges.original.late()
     }
@@ -236,7 +239,10 @@ fn shifted(seed: u64, count: u64) -> bool {
         if theirs == PAL.last_cycle {
             (as_6569.top, as_6569.bottom) = (0xFFFF, 0xFFFF);
         }
+        // An earlier cycle takes fewer lost ones; no line begins here, so that the rest is added again.
+        as_6569.lost = state.lost.min(as_6569.cycle as u8);
         let (mut told, mut after) = answer(&mut judges.original, &as_6569, bank);
+        after.lost += state.lost - as_6569.lost;
         // The refresh of a 6569 in 11, of which nothing is told; here a cycle that has nothing to do.
         if NTSC.next(cycle) == 10 {
             told = told.map(|_| Reads::of(&[(Reason::Idle, 0x3FFF)]));

@@ -65,6 +65,8 @@ pub trait Chip {
     fn read(&self, address: u16, light_pen_x: u8, light_pen_y: u8) -> u8;
     fn ba_high_at_phi1(&self) -> bool;
     fn sprites_with_dma(&self) -> u8;
+    /// How many cycles of its line the CPU has lost so far (02 (xi)).
+    fn cycles_lost(&self) -> u8;
 
     /// The one door for register writes, Y-expand's too (02 (v)): the original has two.
     fn write(&mut self, address: u16, value: u8) {

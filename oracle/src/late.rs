@@ -29,6 +29,7 @@ pub const MOVED: &[&str] = &[
     "BA low",
     "AEC low",
     "AEC counter",
+    "lost cycles",
     "clock of BA's fall",
     "clock of BA's rise",
     "display",

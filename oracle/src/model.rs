@@ -319,6 +319,11 @@ fn arbitrate(s: &mut State, column: Column) {
     s.ba_low = asked;
     s.aec_counter = if asked { (s.aec_counter - 1).max(-1) } else { 3 };
     s.aec_low = s.aec_counter < 0;
+    // 02 (xi): the cycles of this line that the CPU has not had.
+    if s.cycle == 1 {
+        s.lost = 0;
+    }
+    s.lost += u8::from(s.aec_low);
 }
 
 /// 3.8.1 up to the comparisons. What was on before each of these steps is kept.
@@ -623,5 +628,9 @@ impl Chip for Model {
 
     fn sprites_with_dma(&self) -> u8 {
         self.s.dma.count_ones() as u8
+    }
+
+    fn cycles_lost(&self) -> u8 {
+        self.s.lost
     }
 }

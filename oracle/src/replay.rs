@@ -29,10 +29,23 @@ pub const SPRITES_WITH_DMA: u8 = 9;
 pub const WRITE_CONTROL_1: u8 = 10;
 pub const WRITE_CONTROL_2: u8 = 11;
 pub const POWER_UP: u8 = 12;
+pub const CYCLES_LOST: u8 = 13;
 
 /// Every call but the tick.
-pub const OTHERS: [u8; 11] =
-    [WRITE, WRITE_Y_EXPAND, PLACE_CONTROLS, LATE_BYTE, BORDER_COMPARES, READ, BA_HIGH_AT_PHI1, SPRITES_WITH_DMA, WRITE_CONTROL_1, WRITE_CONTROL_2, POWER_UP];
+pub const OTHERS: [u8; 12] = [
+    WRITE,
+    WRITE_Y_EXPAND,
+    PLACE_CONTROLS,
+    LATE_BYTE,
+    BORDER_COMPARES,
+    READ,
+    BA_HIGH_AT_PHI1,
+    SPRITES_WITH_DMA,
+    WRITE_CONTROL_1,
+    WRITE_CONTROL_2,
+    POWER_UP,
+    CYCLES_LOST,
+];
 
 /// A call's name, for messages; nothing where there is no such call.
 pub fn called(call: u8) -> Option<&'static str> {
@@ -49,6 +62,7 @@ pub fn called(call: u8) -> Option<&'static str> {
         WRITE_CONTROL_1 => "control 1 write",
         WRITE_CONTROL_2 => "control 2 write",
         POWER_UP => "power-up",
+        CYCLES_LOST => "cycles lost",
         _ => return None,
     })
 }
@@ -124,11 +138,12 @@ pub fn perform(chip: &mut dyn Chip, case: &Case) -> Result<u16, Refusal> {
             Ok(0)
         }
         SPRITES_WITH_DMA => Ok(chip.sprites_with_dma().into()),
+        CYCLES_LOST => Ok(chip.cycles_lost().into()),
         call => unreachable!("call {call} is no case"),
     }
 }
 
-/// The 318 bytes that a case is answered with.
+/// The 319 bytes that a case is answered with.
 pub fn answer_case(chip: &mut dyn Chip, case: &Case) -> [u8; ANSWER] {
     let (refusal, value) = match perform(chip, case) {
         Ok(value) => (0, value),

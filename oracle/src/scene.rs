@@ -1,14 +1,15 @@
-//! A chip state in plain numbers, and its 309 bytes (docs/FORMATS.md, "Scene"). `decode` takes the newest version alone, as `replay`
+//! A chip state in plain numbers, and its 310 bytes (docs/FORMATS.md, "Scene"). `decode` takes the newest version alone, as `replay`
 //! does; `renewed` makes it of an older one.
 
 use crate::kind::MOS6569;
 
-pub const SCENE: usize = 309;
-pub const HEAD: [u8; 4] = [b'N', b'P', b'S', 3];
+pub const SCENE: usize = 310;
+pub const HEAD: [u8; 4] = [b'N', b'P', b'S', 4];
 /// Where the version stands.
 const VERSION: usize = 3;
-/// Version 1 ends before the kind.
-const WITHOUT_KIND: usize = SCENE - 1;
+/// Versions 2 and 3 end before the lost cycles, version 1 before the kind too.
+pub const WITHOUT_LOST: usize = SCENE - 1;
+pub const WITHOUT_KIND: usize = SCENE - 2;
 /// Where the sprites of a scene begin, the bytes of each, and where in them versions 1 and 2 have a flag of DMA (02 (ix)).
 const SPRITES: usize = 75;
 const SPRITE: usize = 12;
@@ -115,6 +116,7 @@ pub struct State {
     pub clock: i64,
     pub pending: Option<u8>,
     pub kind: u8,
+    pub lost: u8,
 }
 
 /// A field's name in two parts, so that no text is built while states are read and written.
@@ -237,6 +239,7 @@ impl State {
         v.clock(plain("clock"), &mut self.clock);
         v.place(plain("pending place"), &mut self.pending);
         v.byte(plain("kind"), &mut self.kind);
+        v.byte(plain("lost cycles"), &mut self.lost);
     }
 
     pub fn encode(&self) -> [u8; SCENE] {
@@ -266,15 +269,20 @@ pub fn flag_at(k: usize) -> usize {
 
 /// The bytes of an older scene as the newest version has them; any other bytes are themselves. Version 1 has no kind and gets the 6569's.
 /// Up to version 2 each sprite has a flag: 0 or 1, or it is no scene; what it says is not looked at, since the mask decides (02 (ix)).
+/// Up to version 3 the lost cycles are not told, and are 0 (02 (xi)).
 pub fn renewed(bytes: &[u8]) -> Vec<u8> {
     let mut bytes = bytes.to_vec();
     if bytes.len() == WITHOUT_KIND && bytes[VERSION] == 1 {
         bytes.push(MOS6569);
         bytes[VERSION] = 2;
     }
-    if bytes.len() == SCENE && bytes[VERSION] == 2 && (0..8).all(|k| bytes[flag_at(k)] <= 1) {
+    if bytes.len() == WITHOUT_LOST && bytes[VERSION] == 2 && (0..8).all(|k| bytes[flag_at(k)] <= 1) {
         (0..8).for_each(|k| bytes[flag_at(k)] = 0);
         bytes[VERSION] = 3;
+    }
+    if bytes.len() == WITHOUT_LOST && bytes[VERSION] == 3 {
+        bytes.push(0);
+        bytes[VERSION] = 4;
     }
     bytes
 }

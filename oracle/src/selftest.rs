@@ -11,9 +11,9 @@ use crate::late::is_late;
 use crate::memory::Memory;
 use crate::model::{powered, Model};
 use crate::reads::{Reads, Reason};
-use crate::replay::{answer_case, Case, AFTER, LATE_BYTE, OTHERS, READS, TICK};
+use crate::replay::{answer_case, Case, AFTER, CYCLES_LOST, LATE_BYTE, OTHERS, READS, TICK};
 use crate::rng::Rng;
-use crate::scene::{fields, flag_at, renewed, Sort, State, SCENE};
+use crate::scene::{fields, flag_at, renewed, Sort, State, SCENE, WITHOUT_KIND, WITHOUT_LOST};
 use crate::states::{accepted_state, wild_state};
 use crate::vic::fsm::{DisplayState, GraphicsMode};
 use crate::vic::glue::Machine;
@@ -25,7 +25,7 @@ type Check = (&'static str, fn() -> bool);
 const CHECKS: &[Check] = &[
     ("scenes keep their bytes", scenes_keep_their_bytes),
     ("what is not a scene is told", others_are_told),
-    ("older scenes, and what becomes of their flags", older_scenes),
+    ("older scenes, what becomes of their flags, and what they get", older_scenes),
     ("the chip keeps a scene", the_chip_keeps_a_scene),
     ("power-up", power_up),
     ("document 01's chart", the_chart),
@@ -41,6 +41,7 @@ const CHECKS: &[Check] = &[
     ("what a tick reads: the original's trace by the table", the_trace),
     ("what a tick reads: answers, and the text of bus", the_told_reads),
     ("what a tick reads: the 6567R8", the_reads_of_the_6567r8),
+    ("cycles lost on a line", the_lost_cycles),
     ("the 6567R8: its line, its frame and its slots", the_column),
     ("the 6567R8: power-up, and what is refused", the_kinds),
     ("the 6567R8: what goes with sprite 0's slot", the_first_slot),
@@ -73,7 +74,7 @@ fn scenes_keep_their_bytes() -> bool {
         // Any number is a kind in a scene.
         state.kind = number;
         let bytes = state.encode();
-        bytes[308] == number && State::decode(&bytes).is_some_and(|again| again == state && again.encode() == bytes)
+        (bytes[308], bytes[309]) == (number, state.lost) && State::decode(&bytes).is_some_and(|again| again == state && again.encode() == bytes)
     })
 }
 
@@ -107,16 +108,21 @@ fn older(state: &State, version: u8, flags: [u8; 8]) -> Vec<u8> {
     let mut bytes = state.encode().to_vec();
     bytes[3] = version;
     (0..8).for_each(|k| bytes[flag_at(k)] = flags[k]);
-    bytes.truncate(if version == 1 { SCENE - 1 } else { SCENE });
+    bytes.truncate(match version {
+        1 => WITHOUT_KIND,
+        2 | 3 => WITHOUT_LOST,
+        _ => SCENE,
+    });
     bytes
 }
 
-/// docs/FORMATS.md, "Scene": versions 1 and 2 are brought in with the mask, whatever their flags say, and a flag is 0 or 1.
+/// docs/FORMATS.md, "Scene": versions 1 and 2 are brought in with the mask, whatever their flags say, and a flag is 0 or 1. Every older
+/// one has lost no cycle.
 fn older_scenes() -> bool {
     let mut r = Rng::new(5);
     let read = |bytes: &[u8]| State::decode(&renewed(bytes));
     let brought = (0..20_000).all(|_| {
-        let state = any_state(&mut r, MOS6569);
+        let state = State { lost: 0, ..any_state(&mut r, MOS6569) };
         let flags = r.byte();
         let flags: [u8; 8] = std::array::from_fn(|k| flags >> k & 1);
         // One flag is none.
@@ -125,20 +131,21 @@ fn older_scenes() -> bool {
         [1, 2].iter().all(|version| {
             let flagged = older(&state, *version, flags);
             State::decode(&flagged).is_none() && read(&flagged).as_ref() == Some(&state) && read(&older(&state, *version, wrong)).is_none()
-        }) && renewed(&state.encode()) == state.encode()
+        }) && read(&older(&state, 3, [0; 8])).as_ref() == Some(&state)
+            && renewed(&state.encode()) == state.encode()
     });
     // Each flag with the least value that is none.
     let second = |k: usize| older(&powered(MOS6569), 2, std::array::from_fn(|n| if n == k { 2 } else { 1 }));
     let two = (0..8).all(|k| read(&second(k)).is_none());
-    // The kind of version 2 stays; a version's number wants its length; the newest has no flag.
+    // The kind of version 2 stays; a version's number wants its length; from 3 on there is no flag.
     let state = State { kind: 7, dma: 0x0F, ..powered(MOS6569) };
     let second = older(&state, 2, [0, 1, 0, 1, 0, 1, 0, 1]);
     let kept = read(&second).as_ref() == Some(&state);
-    let length =
-        read(&second[..SCENE - 1]).is_none() && read(&older(&state, 1, [0; 8])[..SCENE - 2]).is_none() && read(&[&second[..], &[0]].concat()).is_none();
+    let third = older(&state, 3, [0; 8]);
+    let length = [&second, &third, &older(&state, 1, [0; 8])].iter().all(|old| read(&old[..old.len() - 1]).is_none() && read(&[&old[..], &[0]].concat()).is_none());
     let places = (0..8).map(flag_at).collect::<Vec<usize>>() == [79, 91, 103, 115, 127, 139, 151, 163];
-    let newest = (0..8).all(|k| read(&older(&state, 3, std::array::from_fn(|n| u8::from(n == k)))).is_none())
-        && [0, 4].iter().all(|version| read(&older(&state, *version, [0; 8])).is_none());
+    let newest = (0..8).all(|k| [3, 4].iter().all(|version| read(&older(&state, *version, std::array::from_fn(|n| u8::from(n == k)))).is_none()))
+        && [0, 5].iter().all(|version| read(&older(&state, *version, [0; 8])).is_none());
     brought && two && kept && length && places && newest && [&[][..], &[78, 80, 83], &[78, 80, 83, 1]].iter().all(|bytes| renewed(bytes) == *bytes)
 }
 
@@ -660,10 +667,54 @@ fn the_told_reads() -> bool {
     let at = |n: usize| lines.get(n).map_or("", String::as_str);
     let shown = lines.len() == 69
         && [at(0), at(1), at(2), at(11), at(15), at(16), at(57)]
-            == ["steps 70", "1 311 pointer 07FB", "2 0 idle 3FFF", "11 0", "15 0", "16 0 idle 3FFF", "57 0 idle 3FFF"]
+            == ["steps 70", "1 311 0 pointer 07FB", "2 0 0 idle 3FFF", "11 0 0", "15 0 0", "16 0 0 idle 3FFF", "57 0 0 idle 3FFF"]
         && [at(64), at(65), at(66), at(67), at(68)]
-            == ["1 1 pointer 07FB", "2 1 idle 3FFF", "3 1 pointer 07FC sprite 0000", "4 1 sprite 0001 sprite 0002", "refused 8 69"];
+            == ["1 1 0 pointer 07FB", "2 1 0 idle 3FFF", "3 1 1 pointer 07FC sprite 0000", "4 1 2 sprite 0001 sprite 0002", "refused 8 69"];
     taken && refused && others && shown && text(&[]) == "refused 7 0\n" && text(&[0; 8]) == "steps 0\n"
+}
+
+/// 02 (xi): counted by hand. A bad line takes 15 to 54, after three cycles of warning; with sprite 0 on a 6569 it is not given back
+/// before 60. A line that begins with AEC low has lost a cycle in its first one.
+fn the_lost_cycles() -> bool {
+    let mut chips: [Box<dyn Chip>; 3] =
+        [Box::new(Machine::new(Memory::new())), Box::new(Model::new(Memory::new(), MOS6569)), Box::new(Model::new(Memory::new(), MOS6567R8))];
+    chips.iter_mut().all(|chip| {
+        let kind = chip.state().kind;
+        let last = column(kind).last_cycle;
+        // The number after so many ticks from a state.
+        let mut lost = |cycle: u16, ticks: u16, change: &dyn Fn(&mut State)| {
+            let mut state = State { cycle, ..powered(kind) };
+            change(&mut state);
+            chip.load(&state);
+            (0..ticks).for_each(|_| chip.tick().expect("the tick is taken"));
+            assert_eq!(chip.cycles_lost(), chip.state().lost);
+            chip.cycles_lost()
+        };
+        let bad = |s: &mut State| (s.raster, s.ctrl1, s.den_latch) = (0x32, 0x1B, true);
+        let line = [14, 15, 16, 54, 55, last].map(|cycle| lost(last, cycle, &bad)) == [0, 1, 2, 40, 40, 40];
+        let with_sprite = |s: &mut State| (bad(s), s.dma = 1).0;
+        // On the 6567R8 BA rises in 55, and AEC falls again in 59, for two cycles.
+        let sprite = [54, 55, 59, 60].map(|cycle| lost(last, cycle, &with_sprite)) == if kind == MOS6569 { [40, 41, 45, 45] } else { [40, 40, 41, 42] };
+        // The next line begins at 0, before its first tick is counted: here sprite 3 has the bus there.
+        let begins = |s: &mut State| (s.dma, s.aec_counter, s.lost) = (0x08, -1, 9);
+        let next = [0, 1, 2, 3].map(|ticks| lost(last, ticks, &begins)) == if kind == MOS6569 { [9, 1, 2, 2] } else { [9, 1, 1, 1] };
+        // A state's own number goes on, and is not looked at where its line ends.
+        let on = |s: &mut State| (bad(s), s.raster = 0x33, s.lost = 7, s.aec_counter = -1).0;
+        let given = [0, 1, 2].map(|ticks| lost(20, ticks, &on)) == [7, 8, 9];
+        // BA low is not AEC low, and the flag of before does not count.
+        let warned = |s: &mut State| (bad(s), s.raster = 0x33, s.aec_low = true).0;
+        let warning = [1, 2, 3, 4].map(|ticks| lost(20, ticks, &warned)) == [0, 0, 0, 1];
+        // At most its cycle, in every cycle.
+        let mut taken = |cycle: u16, lost: u8| {
+            chip.load(&State { cycle, lost, ..powered(kind) });
+            chip.tick().err()
+        };
+        let limits = (1..=last).all(|cycle| (taken(cycle, cycle as u8), taken(cycle, cycle as u8 + 1), taken(cycle, 255)) == (None, Some(3), Some(3)));
+        // The question takes any state.
+        let case = Case { call: CYCLES_LOST, bank: 9, arguments: [0; 4], state: State { cycle: 1, lost: 200, ..powered(kind) } };
+        let asked = answer_case(chip.as_mut(), &case)[..3] == [0, 200, 0];
+        line && sprite && next && given && warning && limits && asked
+    })
 }
 
 /// Its own slots, and four cycles that have nothing to do: 10 and 56 to 58.

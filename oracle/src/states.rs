@@ -110,6 +110,7 @@ pub fn accepted_state(r: &mut Rng, kind: u8, cycle: u16) -> Drawn {
         clock,
         pending: if r.flag() { Some(r.below(40) as u8) } else { None },
         kind,
+        lost: if r.chance(1, 4) { cycle as u8 } else { r.below(u64::from(cycle) + 1) as u8 },
     };
     (state, flags)
 }
@@ -213,7 +214,7 @@ pub fn bend_to_edge(r: &mut Rng, s: &mut State, past: bool) {
     }
     let k = r.below(8) as usize;
     let (cycle, line) = (column(s.kind).last_cycle, column(s.kind).last_line);
-    match r.below(14) {
+    match r.below(15) {
         // On a 6569 just past the edge are cycles that only a 6567R8 has, on that one lines that only a 6569 has.
         0 if past => s.cycle = r.pick(&[0, cycle + 1, cycle + 2, 128, 256, 256 + cycle, 0x3F01, 0xFFFF]),
         0 | 1 => s.raster = choose(r, past, &[0, line], &[line + 1, line + 2, 312, 511, 512, 0x0130 + 0x200, 0xFFFF]),
@@ -231,6 +232,11 @@ pub fn bend_to_edge(r: &mut Rng, s: &mut State, past: bool) {
         }
         11 => s.clock = choose(r, past, &[0, CLOCK_LIMIT - 3, CLOCK_LIMIT - 2], &[-1, -2, CLOCK_LIMIT + 1, i64::MIN, i64::MAX]),
         12 => s.forced_clock = choose(r, past, &[0, CLOCK_LIMIT], &[-1, -40, CLOCK_LIMIT + 1, i64::MIN, i64::MAX]),
+        // Just past the edge are numbers that a line's last cycle would allow.
+        13 => {
+            let most = s.cycle.min(254) as u8;
+            s.lost = choose(r, past, &[0, most], &[most + 1, (cycle as u8).max(most + 1), 66, 128, 255]);
+        }
         // An accepted clock from which no tick is possible.
         _ => s.clock = r.pick(&[CLOCK_LIMIT - 1, CLOCK_LIMIT]),
     }
@@ -249,6 +255,7 @@ pub fn wild_state(r: &mut Rng, kind: u8) -> Drawn {
     s.rc = r.byte();
     s.vmli = r.byte();
     s.aec_counter = r.byte() as i8;
+    s.lost = r.byte();
     s.clock = any_clock(r);
     s.forced_clock = any_clock(r);
     for sprite in &mut s.sprites {

@@ -97,6 +97,9 @@ pub struct Machine {
     records: Records,
     /// What the last tick read.
     reads: Reads,
+    /// The AEC flags that its ticks left on this line, low in bit n for cycle n, and the lost cycles that a state brought with it.
+    line: u128,
+    brought: u8,
 }
 
 impl Machine {
@@ -120,7 +123,7 @@ impl Machine {
     }
 
     fn with(memory: Memory) -> Self {
-        Self { chip: VicII::new(), memory, stands_in: false, late: 0, records: Records::default(), reads: Reads::default() }
+        Self { chip: VicII::new(), memory, stands_in: false, late: 0, records: Records::default(), reads: Reads::default(), line: 0, brought: 0 }
     }
 
     /// Chooses the arm of the original's `render_live`.
@@ -171,9 +174,21 @@ impl Machine {
         }
         // The clock given here is the emulator's own, for the bus latch that is not kept.
         self.chip.tick_sequencer(&mut self.memory, 0);
+        self.note_aec();
         self.look();
         if cfg!(debug_assertions) {
             self.trace(before);
+        }
+    }
+
+    /// After a tick: the AEC flag that it left, beside those of its line (02 (xi)). The original counts nothing of the kind.
+    fn note_aec(&mut self) {
+        if self.watches() {
+            let cycle = self.chip.timing.cycle;
+            if cycle == 1 {
+                (self.line, self.brought) = (0, 0);
+            }
+            self.line |= u128::from(self.chip.aec_low) << cycle;
         }
     }
 
@@ -211,6 +226,7 @@ impl Chip for Machine {
         self.chip = VicII::new();
         self.draw(draw);
         self.chip.forced_badline_c_access_clock = 0;
+        (self.line, self.brought) = (0, 0);
         self.look();
     }
 
@@ -318,6 +334,11 @@ impl Chip for Machine {
         self.chip.sprites.sprite_dma.count_ones() as u8
     }
 
+    /// Counted over the original's own AEC flags.
+    fn cycles_lost(&self) -> u8 {
+        self.brought + self.line.count_ones() as u8
+    }
+
     fn late(&self) -> u64 {
         self.late
     }
@@ -352,6 +373,7 @@ impl Chip for Machine {
         c.pending_character_access = s.pending.map(usize::from);
         // A state says it once (02 (ix)).
         self.set_flags(s.dma);
+        (self.line, self.brought) = (0, s.lost);
     }
 
     fn state(&self) -> State {
@@ -378,6 +400,7 @@ impl Chip for Machine {
         s.mode = c.graphics_mode.code();
         s.previous_mode = c.previous_graphics_mode.code();
         s.pending = c.pending_character_access.map(narrow);
+        s.lost = self.cycles_lost();
         s
     }
 }
