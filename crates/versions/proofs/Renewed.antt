@@ -50,12 +50,13 @@ pub unflagged-bytes : (s : List ℕ) → Bytes s → Bytes (unflagged s)
 unfolding unflagged
 unflagged-bytes s b = cleared-bytes (79 ∷ 91 ∷ 103 ∷ 115 ∷ 127 ∷ 139 ∷ 151 ∷ 163 ∷ []) (set s 3 3) (set-bytes s 3 3 (omega arith) b)
 
+third-bytes : (s : List ℕ) → Bytes s → Bytes (third s)
+unfolding third
+third-bytes s b = either Bytes (isFlagged s) (unflagged-bytes s b) b
+
 pub renewed-bytes : (s : List ℕ) → Bytes s → Bytes (renewed s)
-unfolding renewed third
-renewed-bytes s b =
-    let second = next 1 308 0 s in
-    let fine : Bytes second = next-bytes 1 308 0 s (omega arith) (omega arith) b in
-    next-bytes 3 309 0 (third second) (omega arith) (omega arith) (either Bytes (isFlagged second) (unflagged-bytes second fine) fine)
+unfolding renewed
+renewed-bytes s b = next-bytes 3 309 _ _ (omega arith) (omega arith) (third-bytes _ (next-bytes 1 308 _ s (omega arith) (omega arith) b))
 
 pub has-size : (v size : ℕ) (s : List ℕ) → isVersion v size s ≡ true → length s ≡ size
 has-size v size s e = eqb-true (length s) size (left (eqb (length s) size) (eqb (byteAt s 3) v) e)
@@ -72,14 +73,16 @@ third-other : (s : List ℕ) → (length s ≡ 309 → ⊥) → third s ≡ s
 unfolding third isFlagged
 third-other s ne = rw (ne-eqb (length s) 309 ne)
 
--- renewing the newest is the identity
+-- renewing the newest is the identity, whatever bytes an older one gets
+newest-stays : (kind lost : ℕ) (s : List ℕ) → length s ≡ 310 → next 3 309 lost (third (next 1 308 kind s)) ≡ s
+newest-stays kind lost s size =
+    ap (λ (l : List ℕ). next 3 309 lost (third l)) (next-other 1 308 kind s (λ (f : length s ≡ 308). omega arith))
+    ∙ ap (next 3 309 lost) (third-other s (λ (f : length s ≡ 309). omega arith))
+    ∙ next-other 3 309 lost s (λ (f : length s ≡ 309). omega arith)
+
 pub renewed-newest : (s : List ℕ) → isNewest s ≡ true → renewed s ≡ s
 unfolding renewed
-renewed-newest s e =
-    let size : length s ≡ 310 = has-size 4 310 s e in
-    ap (λ (l : List ℕ). next 3 309 0 (third l)) (next-other 1 308 0 s (λ (f : length s ≡ 308). omega arith))
-    ∙ ap (next 3 309 0) (third-other s (λ (f : length s ≡ 309). omega arith))
-    ∙ next-other 3 309 0 s (λ (f : length s ≡ 309). omega arith)
+renewed-newest s e = newest-stays _ _ s (has-size 4 310 s e)
 
 -- ---- what the loss of the flags leaves
 
@@ -106,12 +109,12 @@ third-long s = either (λ (l : List ℕ). length l ≡ length s) (isFlagged s) (
 
 -- ---- what the number of lost cycles leaves
 
-grown-308 : (s : List ℕ) → length s ≡ 309 → byteAt (grown 4 0 s) 308 ≡ byteAt s 308
-grown-308 s h = ap (λ (l : List ℕ). byteAt (grown 4 0 l) 308) (sym (front-listed 0 s 309 (omega arith)))
+grown-308 : (lost : ℕ) (s : List ℕ) → length s ≡ 309 → byteAt (grown 4 lost s) 308 ≡ byteAt s 308
+grown-308 lost s h = ap (λ (l : List ℕ). byteAt (grown 4 lost l) 308) (sym (front-listed 0 s 309 (omega arith)))
 
-fourth-308 : (s : List ℕ) → length s ≡ 309 → byteAt (next 3 309 0 s) 308 ≡ byteAt s 308
+fourth-308 : (lost : ℕ) (s : List ℕ) → length s ≡ 309 → byteAt (next 3 309 lost s) 308 ≡ byteAt s 308
 unfolding next
-fourth-308 s h = either (λ (l : List ℕ). byteAt l 308 ≡ byteAt s 308) (isVersion 3 309 s) (grown-308 s h) refl
+fourth-308 lost s h = either (λ (l : List ℕ). byteAt l 308 ≡ byteAt s 308) (isVersion 3 309 s) (grown-308 lost s h) refl
 
 pub fourth-71 : (s : List ℕ) → length s ≡ 309 → byteAt (next 3 309 0 s) 71 ≡ byteAt s 71
 unfolding next
@@ -135,7 +138,7 @@ first-is-6569 s v =
     let second : List ℕ = grown 2 0 s in
     let long : length second ≡ 309 = has-size 2 309 second (grown-is 2 0 s 309 (omega arith) (omega arith)) in
     let last : byteAt second 308 ≡ 0 = grown-last 2 0 s 308 (omega arith) size in
-    rw (first-grows s v) (fourth-308 (third second) (third-long second ∙ long) ∙ third-308 second long ∙ last)
+    rw (first-grows s v) (fourth-308 _ (third second) (third-long second ∙ long) ∙ third-308 second long ∙ last)
 
 -- what is shorter than the newest stays shorter up to version 3
 second-most : (s : List ℕ) → length s ≤ 309 → length (next 1 308 0 s) ≤ 309
