@@ -1,0 +1,5 @@
+pub mod Takes
+pub mod Numbers
+pub mod Steps
+pub mod Ticks
+pub mod Back

@@ -1,0 +1,1 @@
+// What a dump of ours reads back as: theorems alone.
