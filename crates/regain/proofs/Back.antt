@@ -29,13 +29,13 @@ use Rattle.regain.proofs.Ticks.{changes-take, all-take, mark-takes}
 
 -- ---- the declarations
 
-abbrev zeros : List ℕ
+abbrev pub zeros : List ℕ
 zeros = 0 ∷ 0 ∷ 0 ∷ 0 ∷ 0 ∷ 0 ∷ 0 ∷ 0 ∷ []
 
-abbrev fulls : List ℕ
+abbrev pub fulls : List ℕ
 fulls = 127 ∷ 511 ∷ 1 ∷ 1 ∷ 255 ∷ 7 ∷ 1023 ∷ 1 ∷ []
 
-abbrev first : State
+abbrev pub first : State
 first = state startHead [] false [] 65536
 
 heads : (n₁ n₂ n₃ : ℕ) → saidOver 4096 (reading first [] n₁ n₂ n₃) declarations ≡ Signals 8 ∷ []
@@ -66,7 +66,7 @@ by-numbers room a b s out f g h =
           );
     }
 
-declarations-take : Takes 4096 first declarations (Signals 8 ∷ []) (body zeros fulls false 0)
+pub declarations-take : Takes 4096 first declarations (Signals 8 ∷ []) (body zeros fulls false 0)
 declarations-take = by-numbers 4096 first (body zeros fulls false 0) declarations (Signals 8 ∷ []) heads headed clean
 
 -- ---- the first tick
@@ -107,7 +107,7 @@ abbrev pub Silent : List ℕ → Type 0
 Silent tail =
     (v : List ℕ) (b : Bool) (t : ℕ) (r : Reading) → r .state ≡ body v known b t → r .text ≡ [] → answers 4096 r tail ≡ cond b (Tick t v known ∷ []) []
 
-after : (a b : State) (s tail : List ℕ) (out rest : List Said) → Takes 4096 a s out b → ((r : Reading) → r .state ≡ b → r .text ≡ [] → answers 4096 r tail ≡ rest)
+pub after : (a b : State) (s tail : List ℕ) (out rest : List Said) → Takes 4096 a s out b → ((r : Reading) → r .state ≡ b → r .text ≡ [] → answers 4096 r tail ≡ rest)
     → (r : Reading) → r .state ≡ a → r .text ≡ [] → answers 4096 r (s ++ tail) ≡ out ++ rest
 after a b s tail out rest f g r e h =
     let x = f .run r e h in
@@ -131,7 +131,7 @@ later-told (now ∷ more) was t tail q f h r e k =
 
 -- ---- the whole
 
-ticks-told : (rs : List Record) (tail : List ℕ) → Silent tail → ((r : Reading) → r .state ≡ body zeros fulls false 0 → r .text ≡ [] → answers 4096 r tail ≡ []) → AllWithin rs → length rs < 2 ^ 64
+pub ticks-told : (rs : List Record) (tail : List ℕ) → Silent tail → ((r : Reading) → r .state ≡ body zeros fulls false 0 → r .text ≡ [] → answers 4096 r tail ≡ []) → AllWithin rs → length rs < 2 ^ 64
     → (r : Reading) → r .state ≡ body zeros fulls false 0 → r .text ≡ [] → answers 4096 r (ticksText fresh rs ++ tail) ≡ ticksFrom 0 rs
 unfolding ticksFrom ticksText fresh pieceOf waveAfter timeOf
 ticks-told [] tail q n f h r e k = n r e k

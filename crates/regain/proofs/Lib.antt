@@ -3,3 +3,4 @@ pub mod Numbers
 pub mod Steps
 pub mod Ticks
 pub mod Back
+pub mod Comment

@@ -48,7 +48,7 @@ at p v u b t m = state (head p 8 trues v u b t m) (72 ∷ []) true table 65528
 abbrev pub body : List ℕ → List ℕ → Bool → ℕ → State
 body v u b t = at Body v u b t t
 
-none-left : (t : ℕ) (v u : List ℕ) → repeated (t - t) t v u ≡ []
+pub none-left : (t : ℕ) (v u : List ℕ) → repeated (t - t) t v u ≡ []
 unfolding repeated
 none-left t v u = ap (λ (n : ℕ). repeated n t v u) (let z : t - t ≡ 0 = omega arith in z)
 
