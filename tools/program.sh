@@ -1,5 +1,6 @@
-# What tools/chart, tools/dump and tools/bus have in common; sourced by them, which say `does`, the verb of their help.
+# What tools/chart, tools/dump, tools/bus and tools/capture have in common; sourced by them, which say `does`, the verb of their help.
 # Runs the program of the caller's name and of a chip's kind on a run file or on a readable text, which tools/mkrun turns into one; builds it first where it is not there.
+# A caller that says `takes`, the files of its help, and `crate`, its program, takes these as they are, and no kind.
 set -euo pipefail
 name=$(basename "$0")
 top=$(cd "$(dirname "$0")/.." && pwd)
@@ -13,9 +14,9 @@ files=() said=()
 while [ $# -gt 0 ]; do
     case $1 in
     -h | --help)
-        echo "usage: tools/$name [--kind 6569 | --kind 6567R8] [FILE.run | FILE.txt]   (no file: standard input)"
+        echo "usage: tools/$name ${takes:-[--kind 6569 | --kind 6567R8] [FILE.run | FILE.txt]}   (no file: standard input)"
         echo "$does"
-        echo "A text may say its kind itself, by \`chip KIND\`; what says none is run on a 6569."
+        [ -n "${takes-}" ] || echo "A text may say its kind itself, by \`chip KIND\`; what says none is run on a 6569."
         exit 0
         ;;
     --kind)
@@ -29,6 +30,7 @@ while [ $# -gt 0 ]; do
     esac
     shift
 done
+if [ -n "${takes-}" ] && [ ${#said[@]} -gt 0 ]; then wrong "--kind is no option; see --help"; fi
 [ ${#files[@]} -le 1 ] || wrong "one file at most; see --help"
 for file in "${files[@]}"; do
     if [ ! -r "$file" ] || [ -d "$file" ]; then wrong "$file cannot be read"; fi
@@ -42,17 +44,19 @@ choose() {
     *) wrong "\`$1\` is no kind of chip: 6569 or 6567R8" ;;
     esac
 }
-choose "${said[1]-6569}"
-case ${files[0]-} in
-*.txt)
-    # made first, so that nothing is proved for a text with a fault, and nothing is written
-    made=$(mktemp)
-    trap 'rm -f "$made"' EXIT
-    kind=$("$top/tools/mkrun" "${said[@]}" --print-kind -o "$made" "${files[0]}")
-    choose "$kind"
-    files=("$made")
-    ;;
-esac
+if [ -z "${takes-}" ]; then
+    choose "${said[1]-6569}"
+    case ${files[0]-} in
+    *.txt)
+        # made first, so that nothing is proved for a text with a fault, and nothing is written
+        made=$(mktemp)
+        trap 'rm -f "$made"' EXIT
+        kind=$("$top/tools/mkrun" "${said[@]}" --print-kind -o "$made" "${files[0]}")
+        choose "$kind"
+        files=("$made")
+        ;;
+    esac
+fi
 
 program=$top/target/bin/$crate
 if [ ! -x "$program" ]; then
