@@ -17,7 +17,7 @@ int main() {
         board.clk = 1;
         board.eval();
         trace.dump((uint64_t)time);
-        std::cout << time << ' ' << std::bitset<7>(board.cycle) << ' ' << std::bitset<9>(board.raster) << ' ' << std::bitset<1>(board.ba) << ' '
+        std::cout << "tick " << time << " 0 " << std::bitset<7>(board.cycle) << ' ' << std::bitset<9>(board.raster) << ' ' << std::bitset<1>(board.ba) << ' '
                   << std::bitset<1>(board.aec) << ' ' << std::bitset<8>(board.dma) << ' ' << std::bitset<3>(board.rc) << ' '
                   << std::bitset<10>(board.vc) << ' ' << std::bitset<1>(board.irq) << '\n';
         board.clk = 0;
