@@ -2,6 +2,7 @@
 
 import collections
 import functools
+import itertools
 import os
 import shlex
 import subprocess
@@ -132,17 +133,15 @@ def judged(ours, theirs, width):
     return AGREE if both == (1 << width) - 1 else UNKNOWN
 
 
-class Planes:
+def planes(words, width):
     """The values of a signal as numbers with a bit for each tick: of each of its digits the ones, and those that are known."""
+    pairs = {word: digits(word, width) for word in set(words)}
 
-    def __init__(self, words, width):
-        pairs = [digits(word, width) for word in words]
-        self.ones = [self.packed(pairs, 0, digit) for digit in range(width)]
-        self.known = [self.packed(pairs, 1, digit) for digit in range(width)]
+    def packed(which, digit):
+        bits = {word: "01"[pair[which] >> digit & 1] for word, pair in pairs.items()}
+        return int("".join(map(bits.__getitem__, words))[::-1] or "0", 2)
 
-    @staticmethod
-    def packed(pairs, which, digit):
-        return int("".join("1" if pair[which] >> digit & 1 else "0" for pair in reversed(pairs)) or "0", 2)
+    return [[packed(which, digit) for digit in range(width)] for which in (0, 1)]
 
 
 class Slices:
@@ -158,49 +157,85 @@ class Slices:
         return int.from_bytes(self.parts[place & 7][first : first + (size + 7) // 8], "little")
 
 
+# So many ticks are compared first, then twice as many at a time, and a place is left where it can no longer be the best.
+BLOCK = 256
+
+
+def blocks(size):
+    first, block = 0, BLOCK
+    while first < size:
+        yield range(first, min(first + block, size))
+        first, block = first + block, 2 * block
+
+
 class Scores:
-    """For one signal, how well the ticks of a long stretch agree with those of a short one that is laid over it."""
+    """How well the ticks of a long capture agree with those of a short one that is laid over it: values that agree, less those that differ."""
 
-    def __init__(self, long, short, signal):
-        width, self.size = SIGNALS[signal], len(short)
-        one, self.two = Planes(long.values[signal], width), Planes(short.values[signal], width)
-        self.ones = [Slices(number, len(long), self.size) for number in one.ones]
-        self.known = [Slices(number, len(long), self.size) for number in one.known]
-        # most captures know a value wholly or not at all, and then one number says it
-        self.alike = len(set(one.known)) == 1 and len(set(self.two.known)) == 1
-        self.most = bin(functools.reduce(int.__and__, self.two.known)).count("1")
+    def __init__(self, long, short):
+        self.size = len(short)
+        known = [signal for signal in SIGNALS if any(set(word) != {"x"} for word in set(short.values[signal])) and any(set(word) != {"x"} for word in set(long.values[signal]))]
+        # the widest first: they rule out most
+        known.sort(key=lambda signal: -SIGNALS[signal])
+        pairs = [(planes(long.values[signal], SIGNALS[signal]), planes(short.values[signal], SIGNALS[signal])) for signal in known]
+        self.long = [[[Slices(number, len(long), self.size) for number in numbers] for numbers in one] for one, _ in pairs]
+        self.blocks = list(blocks(self.size))
+        self.short = [[[[number >> block.start & (1 << len(block)) - 1 for number in numbers] for numbers in two] for _, two in pairs] for block in self.blocks]
+        # of each block and signal how many values are known, and of all that follow
+        self.most = [[bin(functools.reduce(int.__and__, two[1])).count("1") for two in block] for block in self.short]
+        self.rest = list(itertools.accumulate(map(sum, reversed(self.most))))[::-1] + [0]
 
-    def at(self, place):
-        """How many values agree, less those that differ. The place is that of the short one's first tick in the long one."""
-        differ, full = 0, None
-        for digit, (ones, known) in enumerate(zip(self.two.ones, self.two.known)):
-            if digit == 0 or not self.alike:
-                both = self.known[digit].at(place, self.size) & known
-                full = both if full is None else full & both
-                if not both and self.alike:
-                    return 0
-            differ |= (self.ones[digit].at(place, self.size) ^ ones) & both
-        return bin(full & ~differ).count("1") - bin(differ).count("1")
+    def block(self, nth, place, least):
+        """The score of a block at a place of the short one's first tick in the long one; None where it is below the least."""
+        start, size = place + self.blocks[nth].start, len(self.blocks[nth])
+        score, left = 0, sum(self.most[nth])
+        for one, two, most in zip(self.long, self.short[nth], self.most[nth]):
+            differ, full = 0, -1
+            for ones, known, our_ones, our_known in zip(one[0], one[1], two[0], two[1]):
+                both = known.at(start, size) & our_known
+                full &= both
+                differ |= (ones.at(start, size) ^ our_ones) & both
+            parts = bin(differ).count("1")
+            score += bin(full & ~differ).count("1") - parts
+            left -= most
+            if score + left < least:
+                return None
+        return score
+
+    def at(self, place, least):
+        """The score of a place, or None where it is below the least."""
+        score = 0
+        for nth in range(len(self.blocks)):
+            found = self.block(nth, place, least - score - self.rest[nth + 1])
+            if found is None:
+                return None
+            score += found
+        return score
 
 
 def best_place(long, short):
     """Where in the long one the short one begins: where most agrees. They share half of the short one's ticks at least."""
     shared = (len(short) + 1) // 2
     places = range(shared - len(short), len(long) - shared + 1)
-    known = [signal for signal in SIGNALS if any("x" not in word for word in set(short.values[signal])) and any("x" not in word for word in set(long.values[signal]))]
-    # the widest first: they rule out most
-    todo = [Scores(long, short, signal) for signal in sorted(known, key=lambda signal: -SIGNALS[signal])]
-    sums = dict.fromkeys(places, 0)
-    while todo:
-        scores = todo.pop(0)
-        for place in sums:
-            sums[place] += scores.at(place)
-        # What the likeliest has in the end, no other place may miss with all that is left to gain.
-        likeliest = max(sums, key=lambda place: (sums[place], -place))
-        due = sums[likeliest] + sum(scores.at(likeliest) for scores in todo)
-        gain = sum(scores.most for scores in todo)
-        sums = {place: found for place, found in sums.items() if found + gain >= due}
-    return max(sums, key=lambda place: (sums[place], -place))
+    scores = Scores(long, short)
+    none = -len(SIGNALS) * len(short)
+    # The places that one block alone would choose are likely; what the best of them has, no other may miss. A good one is enough.
+    least = none
+    for nth in dict.fromkeys((0, len(scores.blocks) - 1, len(scores.blocks) // 2)):
+        if least > 0.9 * scores.rest[0]:
+            break
+        likeliest, found = None, none
+        for place in places:
+            score = scores.block(nth, place, found + 1)
+            if score is not None:
+                likeliest, found = place, score
+        if likeliest is not None:
+            least = max(least, scores.at(likeliest, none))
+    best = None
+    for place in places:
+        score = scores.at(place, least if best is None else least + 1)
+        if score is not None:
+            best, least = place, score
+    return best
 
 
 Difference = collections.namedtuple("Difference", "tick time cycle raster signal ours theirs")
