@@ -13,6 +13,7 @@ REFUSALS = {
     14: "not a dump, or a signal of the wrong width",
     15: "more than 64 signals",
     16: "time goes back",
+    17: "no room for an identifier or a time",
 }
 # A dump may say two times that are far apart, with a tick for each unit between: no more of them are kept, and no more passed over.
 MOST_TICKS = 1_000_000
