@@ -1,0 +1,10 @@
+pub mod Heads
+pub mod Table
+pub mod Listed
+pub mod Letters
+pub mod Bytes
+pub mod Tells
+pub mod Heard
+pub mod Last
+pub mod Early
+pub mod Short

@@ -1,0 +1,1 @@
+// What a reader of captures is heard to say: definitions and theorems alone.
