@@ -24,7 +24,8 @@ use Rattle.chip.specs.declared.Chip.{Chip}
 use Rattle.chip.specs.declared.Answer.{Answer}
 use Rattle.chip.specs.Chip.{answer, powered}
 use Rattle.chip.specs.Accept.{stateRefusal}
-use Rattle.sequencer.specs.Tick.{tickWorld, tickRefusal, ticked, ticksFrom}
+use Rattle.world.specs.Tick.{tickWorld}
+use Rattle.sequencer.specs.Tick.{tickRefusal, ticked, ticksFrom}
 use Rattle.calls.specs.Calls.{isExpand, fileWritten, expandAt, registerWritten, comparesBy, controlStored, control1Written, control2Written, controlsPlaced, lateAt, lateTaken}
 use Rattle.artwork.specs.Runs.{Call, tick, ticks, write, expand, compares, control-1, control-2, place-controls, late, done, run}
 use Rattle.agree.specs.Was.{Flagged, freshWas, slotMovedWas, byteOneWas, byteZeroWas}

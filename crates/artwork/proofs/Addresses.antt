@@ -12,8 +12,8 @@ use Rattle.access.specs.Reads.{read, told}
 use Rattle.picture.specs.Reads.{readsBy}
 use Rattle.side.specs.Turn.{freshSide, turned}
 use Rattle.chip.specs.Chip.{powered}
-use Rattle.sequencer.specs.World.{worldOf}
-use Rattle.sequencer.specs.Tick.{tickReads}
+use Rattle.world.specs.World.{worldOf}
+use Rattle.world.specs.Tick.{tickReads}
 use Rattle.artwork.proofs.Instances.{filled, loud}
 
 first-told : (x : Read) (l : List Read) → told (x ∷ l) .first ≡ x

@@ -34,7 +34,8 @@ use Rattle.registers.specs.Control.{timed}
 use Rattle.chip.specs.Accept.{accepted, aecFine, clockFine, placeFine}
 use Rattle.sequencer.specs.Tick.{tickable}
 use Rattle.calls.specs.Calls.{fileWritten, registerWritten, expandAt, controlStored, control1Written, control2Written, controlsPlaced}
-use Rattle.sequencer.proofs.Sides.{tick-taken, tick-side, tick-bank, tick-unknown, tick-unaccepted}
+use Rattle.world.proofs.Sides.{tick-side}
+use Rattle.sequencer.proofs.Sides.{tick-taken, tick-bank, tick-unknown, tick-unaccepted}
 use Rattle.artwork.specs.Runs.{Call, tick, write, expand, control-1, control-2, place-controls, done}
 use Rattle.artwork.proofs.Instances.{filled, filled-low, filled-high, filled-above}
 

@@ -15,7 +15,8 @@ use Rattle.script.specs.declared.Step.{Step}
 use Rattle.script.specs.declared.Step.the-variants as step
 use Rattle.script.specs.Machinery.Cursor.{nextOf}
 use Rattle.chip.specs.declared.Chip.{Chip}
-use Rattle.sequencer.specs.Tick.{tickRefusal, tickOf, ticked}
+use Rattle.world.specs.Tick.{tickOf}
+use Rattle.sequencer.specs.Tick.{tickRefusal, ticked}
 use Rattle.run.specs.Run.{doneOf}
 use Rattle.driver.specs.declared.Run.{Run}
 use Rattle.driver.specs.declared.Event.{Event}

@@ -16,7 +16,8 @@ use Rattle.chip.specs.declared.Chip.{Chip}
 use Rattle.chip.specs.declared.Answer.{Answer}
 use Rattle.chip.specs.Accept.{accepted}
 use Rattle.sequencer.specs.Tick.{tickable}
-use Rattle.sequencer.proofs.Sides.{tick-taken, tick-side}
+use Rattle.world.proofs.Sides.{tick-side}
+use Rattle.sequencer.proofs.Sides.{tick-taken}
 use Rattle.calls.specs.Calls.{controlStored, control1Written}
 use Rattle.calls.proofs.Kept.{control-1-kept}
 use Rattle.run.specs.Run.{doneOf}

@@ -22,8 +22,8 @@ use Rattle.picture.specs.declared.Pen.{Pen}
 use Rattle.picture.specs.Pen.{penAfter, matrixAfter, slotted}
 use Rattle.picture.specs.Machinery.Spots.{drawSpots, drawnBy, slotNoted, litNoted, darkNoted}
 use Rattle.picture.proofs.Told.{lit-reads, dark-reads}
-use Rattle.sequencer.specs.World.{World}
-use Rattle.sequencer.specs.Tick.{tickWorld, tickReads}
+use Rattle.world.specs.World.{World}
+use Rattle.world.specs.Tick.{tickWorld, tickReads}
 use Rattle.sequencer.proofs.Ordered.{follows, lit-graphics}
 
 pub can-range : (z : ℤ) → canTick z → inRange z

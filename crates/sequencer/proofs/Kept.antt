@@ -7,8 +7,9 @@ use Rattle.side.proofs.Kept.{side-kept}
 use Rattle.picture.proofs.Laws.{forced-kept}
 use Rattle.chip.specs.declared.Chip.{Chip}
 use Rattle.chip.specs.Accept.{accepted}
-use Rattle.sequencer.specs.World.{World, worldOf, chipOf}
-use Rattle.sequencer.specs.Tick.{tickable, tickWorld, tickOf}
+use Rattle.world.specs.World.{World, worldOf, chipOf}
+use Rattle.world.specs.Tick.{tickWorld, tickOf}
+use Rattle.sequencer.specs.Tick.{tickable}
 use Rattle.chip.proofs.Accepted.{accepted-clock}
 use Rattle.chip.proofs.Fine.{accepted-fine, fine-accepted}
 use Rattle.sequencer.proofs.Clock.{tickable-can}

@@ -2,9 +2,13 @@ pub mod Clock
 pub mod Ordered
 pub mod Glue
 pub mod Kept
+pub mod Until
 pub mod Runs
 pub mod Staged
 pub mod Skip
 pub mod Sides
 pub mod Numbers
 pub mod Reported
+pub mod Whole
+pub mod Lined
+pub mod Alike

@@ -17,7 +17,8 @@ use Rattle.chip.specs.declared.Answer.{Answer}
 use Rattle.chip.specs.Chip.{answer}
 use Rattle.chip.specs.Accept.{accepted, stateRefusal}
 use Rattle.chip.proofs.Fine.{taken-accepted, unknown-12, only-unknown-12}
-use Rattle.sequencer.specs.Tick.{tickable, tickWorld, tickOf, tickRefusal, ticked, ticksFrom}
+use Rattle.world.specs.Tick.{tickWorld, tickOf}
+use Rattle.sequencer.specs.Tick.{tickable, tickRefusal, ticked, ticksFrom}
 use Rattle.sequencer.proofs.Runs.{state-first}
 
 abbrev AtMost : ℕ → ℕ → Type 0

@@ -23,8 +23,9 @@ use Rattle.chip.specs.declared.Chip.{Chip}
 use Rattle.chip.specs.declared.Answer.{Answer}
 use Rattle.chip.specs.Accept.{accepted}
 use Rattle.chip.proofs.Level.{Level}
-use Rattle.sequencer.specs.World.{World, worldOf}
-use Rattle.sequencer.specs.Tick.{tickable, tickReads, tickRefusal, ticked, ticksFrom}
+use Rattle.world.specs.World.{World, worldOf}
+use Rattle.world.specs.Tick.{tickReads}
+use Rattle.sequencer.specs.Tick.{tickable, tickRefusal, ticked, ticksFrom}
 use Rattle.sequencer.proofs.Sides.{tick-taken, tick-late}
 
 -- 02 (viii): at most two

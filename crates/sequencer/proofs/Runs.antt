@@ -1,11 +1,10 @@
 -- A run of ticks: what it holds from tick to tick, and how it ends. Assumes nothing.
-use Prim.Native.Nat.{ℕ, zero, suc, _+_, _-_, _<_, _≤_}
+use Prim.Native.Nat.{ℕ, zero, suc, _+_, _<_, _≤_}
 use mathlib.Core.Path.{_≡_, refl, sym, _∙_}
-use mathlib.Core.Bool.{true, false}
+use mathlib.Core.Bool.{true, false, cond}
 use mathlib.Core.List.{[]}
 use native.Mathlib.Omega.{arith}
 use native.Mathlib.Numerals.{add-one}
-use native.Mathlib.Nat.{zero-add, suc-add}
 use lib.Dec.{eqb}
 use lib.ListN.{length}
 use borrow.Author.Tests.{ne-eqb}
@@ -20,12 +19,14 @@ use Rattle.chip.specs.declared.Chip.{Chip}
 use Rattle.chip.specs.declared.Answer.{Answer}
 use Rattle.chip.specs.Accept.{accepted, stateRefusal}
 use Rattle.chip.specs.Chip.{answer, reading}
-use Rattle.sequencer.specs.World.{World, chipOf}
-use Rattle.sequencer.specs.Tick.{tickable, tickWorld, tickReads, tickRefusal, ticked, ticksFrom}
+use Rattle.world.specs.World.{World, chipOf}
+use Rattle.world.specs.Tick.{tickWorld, tickReads}
+use Rattle.sequencer.specs.Tick.{tickable, tickRefusal, ticked, ticksFrom}
 use Rattle.sequencer.specs.Machinery.Parts.{Ready, Held}
 use Rattle.chip.proofs.Fine.{accepted-fine, accepted-taken}
 use Rattle.chip.proofs.Accepted.{accepted-clock, accepted-forced, clock-fine-range}
 use Rattle.sequencer.proofs.Clock.{tickable-can}
+use Rattle.sequencer.proofs.Until as Until
 use Rattle.sequencer.proofs.Kept.{world-kept}
 
 pub ready : {h : Host} {g : Registers} {w : World} → Held h g w → tickable (w .side .bus .clock) ≡ true → Ready h w
@@ -41,34 +42,20 @@ ready {h} {g} {w} held t = record {
   lost = let fine = accepted-fine (chipOf g w) (held .fine) .side in omega (arith, fine .lost, fine .last, last-most (kindOf (w .side .beam .kind)));
 }
 
--- a refusal stays: the state is as it was, so the next tick is refused alike
-same-again : (h : Host) (c : Chip) (t : Answer) (i : ℕ) → ticksFrom h i c ≡ t → eqb (t .refused) 0 ≡ false → ticksFrom h (suc i) c ≡ t
-unfolding ticksFrom
-same-again h c t i s r = rw (s, r)
-
-stays : (h : Host) (c : Chip) (t : Answer) (i : ℕ) → ticksFrom h i c ≡ t → eqb (t .refused) 0 ≡ false → (k : ℕ) → ticksFrom h (k + i) c ≡ t
-stays h c t i e r zero = rw zero-add e
-stays h c t i e r (suc k) = rw suc-add (same-again h c t (k + i) (stays h c t i e r k) r)
-
--- a tick that is refused ends every run that has one more to do
-pub ended : (h : Host) (c : Chip) (t : Answer) (i n : ℕ) → ticksFrom h (suc i) c ≡ t → eqb (t .refused) 0 ≡ false → i < n → t ≡ ticksFrom h n c
-ended h c t i n e r l =
-    let q : (n - suc i) + suc i ≡ n = omega arith in
-    sym (rw q at (stays h c t (suc i) e r (n - suc i)))
-
-pub next : (h : Host) (c d : Chip) {r : Reads} (i : ℕ) → ticksFrom h i c ≡ reading d r → ticksFrom h (suc i) c ≡ ticked h d
-unfolding ticksFrom
-next h c d i e = rw e
-
 pub none : (h : Host) (c : Chip) → ticksFrom h 0 c ≡ answer 0 c
 unfolding ticksFrom
 none h c = refl
 
-pub refused-first : (h : Host) (c : Chip) (r n : ℕ) → tickRefusal h c ≡ r → (r ≡ 0 → ⊥) → (n ≡ 0 → ⊥) → answer r c ≡ ticksFrom h n c
+more : (h : Host) (n : ℕ) (c : Chip) → ticksFrom h (suc n) c ≡ cond (eqb (ticksFrom h n c .refused) 0) (ticked h (ticksFrom h n c .chip)) (ticksFrom h n c)
+unfolding ticksFrom
+more h n c = refl
+
+pub next : (h : Host) (c d : Chip) {r : Reads} (i : ℕ) → ticksFrom h i c ≡ reading d r → ticksFrom h (suc i) c ≡ ticked h d
+next h = Until.next (ticked h) (ticksFrom h) (none h) (more h)
+
+refused-first : (h : Host) (c : Chip) (r n : ℕ) → tickRefusal h c ≡ r → (r ≡ 0 → ⊥) → (n ≡ 0 → ⊥) → answer r c ≡ ticksFrom h n c
 unfolding ticked
-refused-first h c r n e nz nn =
-    let z = ne-eqb r 0 nz in
-    ended h c (answer r c) 0 n (next h c c 0 (none h c) ∙ rw (e, z)) z (omega arith)
+refused-first h c r n e nz nn = Until.refused-first (ticked h) (ticksFrom h) (none h) (more h) c r n (rw (e, ne-eqb r 0 nz)) nz nn
 
 module _ (h : Host) (c : Chip) where
   pub one-tick : ticksFrom h 1 c ≡ ticked h c
@@ -122,7 +109,7 @@ module _ (h : Host) (g : Registers) (w₀ : World) (n : ℕ) where
 
   pub no-more : {w : World} {i : ℕ} {r : Reads} → Going w i r → i < n → tickable (w .side .bus .clock) ≡ false → answer 4 (chipOf g w) ≡ ticksFrom h n (chipOf g w₀)
   no-more {w} {i} r l t =
-      ended h (chipOf g w₀) (answer 4 (chipOf g w)) i n (next h (chipOf g w₀) (chipOf g w) i (r .state) ∙ late w (r .held) t) refl l
+      Until.ended (ticked h) (ticksFrom h) (none h) (more h) (chipOf g w₀) (answer 4 (chipOf g w)) i n (next h (chipOf g w₀) (chipOf g w) i (r .state) ∙ late w (r .held) t) refl l
 
   pub all-done : {w : World} {i : ℕ} {r : Reads} → Going w i r → n ≤ i → reading (chipOf g w) r ≡ ticksFrom h n (chipOf g w₀)
   all-done {w} {i} r l = let q : i ≡ n = omega (arith, r .within) in rw (← q) (sym (r .state))

@@ -1,4 +1,4 @@
--- What a tick makes of the timing side: no picture value reaches it. Assumes nothing.
+-- What a tick answers, and that two chips with level timing sides stay level. Assumes nothing.
 use mathlib.Core.Path.{_≡_, refl, sym, ap, _∙_}
 use mathlib.Core.Bool.{Bool, true, false}
 use Rattle.memory.specs.Lent.{Host, lentRefusal}
@@ -9,8 +9,10 @@ use Rattle.registers.specs.Control.{timed}
 use Rattle.access.specs.Reads.{told}
 use Rattle.chip.specs.Chip.{answer, reading}
 use Rattle.chip.specs.Accept.{accepted}
-use Rattle.sequencer.specs.World.{worldOf}
-use Rattle.sequencer.specs.Tick.{tickable, tickWorld, tickReads, tickOf, tickRefusal, ticked}
+use Rattle.world.specs.World.{worldOf}
+use Rattle.world.specs.Tick.{tickReads, tickOf}
+use Rattle.world.proofs.Sides.{tick-side}
+use Rattle.sequencer.specs.Tick.{tickable, tickRefusal, ticked}
 use Rattle.schedule.specs.Kind.{known}
 use Rattle.chip.proofs.Fine.{accepted-taken, unaccepted-3, unknown-12}
 use Rattle.chip.proofs.Level.{Level, LevelAnswers}
@@ -36,11 +38,6 @@ tick-taken h c l e t = simp (l, accepted-taken c e, t)
 pub tick-late : (h : Host) (c : Chip) → lentRefusal h ≡ 0 → accepted c ≡ true → tickable (c .side .bus .clock) ≡ false → ticked h c ≡ answer 4 c
 unfolding ticked tickRefusal
 tick-late h c l e t = simp (l, accepted-taken c e, t)
-
--- a tick's timing side is the timing step's, whatever the host lends
-pub tick-side : (h : Host) (c : Chip) → tickOf h c .side ≡ turned (timed (c .regs)) (c .side) .side
-unfolding tickWorld
-tick-side h c = refl
 
 module _ {a b : Chip} (e : Level a b) where
   pub tick-level : (h k : Host) → lentRefusal h ≡ 0 → lentRefusal k ≡ 0 → accepted a ≡ true → accepted b ≡ true → LevelAnswers (ticked h a) (ticked k b)

@@ -35,9 +35,9 @@ use Rattle.picture.specs.Reads.{readsBy}
 use Rattle.picture.proofs.Laws.{matrix-length, slotted-pointers, slotted-bytes, slotted-words, no-slot, changing-over}
 use Rattle.picture.proofs.Plain.{Plain, plain-matrix, pen-again, reads-again}
 use Rattle.sequencer.specs.declared.Core.{Core}
-use Rattle.sequencer.specs.World.{World, chipOf}
+use Rattle.world.specs.World.{World, chipOf}
 use Rattle.sequencer.specs.Machinery.Parts.{Ready, Held, Roomy}
-use Rattle.sequencer.specs.Tick.{tickWorld, tickReads}
+use Rattle.world.specs.Tick.{tickWorld, tickReads}
 use Rattle.sequencer.specs.Machinery.Skip.{skippableBy, skipped, worldLater}
 use Rattle.chip.proofs.Fine.{accepted-fine}
 use Rattle.sequencer.proofs.Runs.{ready}

@@ -20,8 +20,9 @@ use Rattle.arbitration.specs.Bus.{clockOn}
 use Rattle.arbitration.proofs.Kept.{clock-on}
 use Rattle.chip.specs.declared.Chip.{Chip}
 use Rattle.chip.specs.Chip.{reading}
-use Rattle.sequencer.specs.World.{World, chipOf}
-use Rattle.sequencer.specs.Tick.{tickable, tickWorld, tickReads, ticksFrom}
+use Rattle.world.specs.World.{World, chipOf}
+use Rattle.world.specs.Tick.{tickWorld, tickReads}
+use Rattle.sequencer.specs.Tick.{tickable, ticksFrom}
 use Rattle.sequencer.specs.Machinery.Parts.{Held, Roomy, Part}
 use Rattle.sequencer.proofs.Runs.{Going, next, one-tick, begun, on}
 
@@ -31,7 +32,7 @@ unfolding tickable
 room-now k (pos n) h r = le-leb n lastTickable (omega arith)
 room-now k (negsuc n) h r = absurd r
 
-room-next : (k : ℕ) (z : ℤ) → 0 < k → Roomy k z → Roomy (k - 1) (clockOn 1 z)
+pub room-next : (k : ℕ) (z : ℤ) → 0 < k → Roomy k z → Roomy (k - 1) (clockOn 1 z)
 room-next k (pos n) h r = rw (clock-on 1 n) (omega arith)
 room-next k (negsuc n) h r = absurd r
 
@@ -46,7 +47,7 @@ fits-some k n (pos c) l m f t e =
     (l, (m, omega arith))
 fits-some k n (negsuc c) l m f t e = absurd t
 
-tick-clock : (h : Host) (g : Registers) (w : World) → tickWorld h g w .side .bus .clock ≡ clockOn 1 (w .side .bus .clock)
+pub tick-clock : (h : Host) (g : Registers) (w : World) → tickWorld h g w .side .bus .clock ≡ clockOn 1 (w .side .bus .clock)
 unfolding tickWorld
 tick-clock h g w = side-clock _ (w .side)
 
@@ -59,7 +60,7 @@ after : (h : Host) (c d : Chip) {r : Reads} (i : ℕ) → ticksFrom h i c ≡ re
 after h c d i e zero = rw (suc-add, zero-add) (next h c d i e ∙ sym (one-tick h d))
 after h c d i e (suc k) = rw suc-add (again h c d (suc k + i) (suc k) (after h c d i e k))
 
-some-after : (h : Host) (c d : Chip) {r : Reads} (i k : ℕ) → ticksFrom h i c ≡ reading d r → 0 < k → ticksFrom h (k + i) c ≡ ticksFrom h k d
+pub some-after : (h : Host) (c d : Chip) {r : Reads} (i k : ℕ) → ticksFrom h i c ≡ reading d r → 0 < k → ticksFrom h (k + i) c ≡ ticksFrom h k d
 some-after h c d i zero e l = absurd (omega arith)
 some-after h c d i (suc k) e l = after h c d i e k
 

@@ -1,3 +1,4 @@
 pub mod World
 pub mod Tick
+pub mod Line
 pub mod Machinery

@@ -10,7 +10,8 @@ use Rattle.schedule.proofs.Places.{last-most, line-most}
 use Rattle.chip.specs.declared.Chip.{Chip}
 use Rattle.chip.specs.Accept.{accepted}
 use Rattle.chip.proofs.Fine.{accepted-fine}
-use Rattle.sequencer.specs.Tick.{tickOf, tickRefusal}
+use Rattle.world.specs.Tick.{tickOf}
+use Rattle.sequencer.specs.Tick.{tickRefusal}
 use Rattle.sequencer.proofs.Kept.{tick-kept}
 use Rattle.sequencer.proofs.Numbers.{tick-passes}
 use Rattle.line.specs.Line.{levelOf}

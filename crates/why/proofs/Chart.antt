@@ -18,7 +18,8 @@ use Rattle.script.specs.File.{runOf}
 use Rattle.chip.specs.declared.Chip.{Chip}
 use Rattle.chip.specs.declared.Answer.{Answer}
 use Rattle.chip.specs.Chip.{powered}
-use Rattle.sequencer.specs.Tick.{tickOf, ticked}
+use Rattle.world.specs.Tick.{tickOf}
+use Rattle.sequencer.specs.Tick.{ticked}
 use Rattle.artwork.specs.Runs.{Call, write, expand, compares, control-1, control-2, place-controls, late, done}
 use Rattle.run.specs.Run.{doneOf}
 use Rattle.driver.specs.declared.Run.{Run}

@@ -8,7 +8,8 @@ use Rattle.laws.proofs.Choice.{by-test}
 use Rattle.memory.specs.Lent.{Host}
 use Rattle.chip.specs.declared.Chip.{Chip}
 use Rattle.chip.specs.declared.Answer.{Answer}
-use Rattle.sequencer.specs.Tick.{tickOf, tickRefusal, ticked, ticksFrom}
+use Rattle.world.specs.Tick.{tickOf}
+use Rattle.sequencer.specs.Tick.{tickRefusal, ticked, ticksFrom}
 use Rattle.sequencer.proofs.Numbers.{tick-number}
 use Rattle.artwork.specs.Runs.{Call, tick, ticks, write, expand, compares, control-1, control-2, place-controls, late, done}
 use Rattle.why.specs.Why.{tickAdds, ticksAdd, adds, since, after}

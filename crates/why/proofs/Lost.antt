@@ -21,7 +21,7 @@ use Rattle.chip.specs.declared.Chip.{Chip}
 use Rattle.chip.specs.declared.Answer.{Answer}
 use Rattle.chip.specs.Chip.{powered}
 use Rattle.chip.specs.Accept.{stateRefusal}
-use Rattle.sequencer.specs.Tick.{tickWorld, tickOf}
+use Rattle.world.specs.Tick.{tickWorld, tickOf}
 use Rattle.calls.specs.Calls.{cyclesLost, isExpand, fileWritten, expandAt, registerWritten, comparesBy, controlStored, control1Written, control2Written, controlsPlaced, lateAt, lateTaken}
 use Rattle.artwork.specs.Runs.{Call, tick, ticks, write, expand, compares, control-1, control-2, place-controls, late, done}
 use Rattle.why.specs.Why.{adds, history, after}

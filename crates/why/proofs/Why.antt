@@ -23,7 +23,8 @@ use Rattle.side.specs.Turn.{turned}
 use Rattle.chip.specs.declared.Chip.{Chip}
 use Rattle.chip.specs.declared.Answer.{Answer}
 use Rattle.chip.specs.Accept.{stateRefusal}
-use Rattle.sequencer.specs.Tick.{tickWorld, tickOf, ticked, ticksFrom}
+use Rattle.world.specs.Tick.{tickWorld, tickOf}
+use Rattle.sequencer.specs.Tick.{ticked, ticksFrom}
 use Rattle.calls.specs.Calls.{isExpand, fileWritten, expandAt, registerWritten, comparesBy, controlStored, control1Written, control2Written, controlsPlaced, lateAt, lateTaken}
 use Rattle.artwork.specs.Runs.{Call, tick, ticks, write, expand, compares, control-1, control-2, place-controls, late, done}
 use Rattle.why.specs.Why.{tickAdds, ticksAdd, adds, history, after, asked, lastAll, lastFour, ByTheLastFour}

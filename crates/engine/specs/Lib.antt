@@ -1,0 +1,4 @@
+pub mod Begin
+pub mod Counters
+pub mod Parts
+pub mod World

@@ -1,0 +1,16 @@
+pub mod Through
+pub mod Parts
+pub mod Sweep
+pub mod Border
+pub mod Sprites
+pub mod Split
+pub mod Asked
+pub mod Bus
+pub mod Rows
+pub mod Accesses
+pub mod Timing
+pub mod Slots
+pub mod World
+pub mod Columns
+pub mod Picture
+pub mod Lines

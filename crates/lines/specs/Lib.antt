@@ -1,0 +1,10 @@
+pub mod Begin
+pub mod Border
+pub mod Sprites
+pub mod Bus
+pub mod Rows
+pub mod Side
+pub mod Slots
+pub mod Columns
+pub mod Whole
+pub mod Lines
