@@ -87,10 +87,6 @@ module _ (h : Host) (g : Registers) (w₀ : World) (n : ℕ) where
   unfolding ticked tickRefusal
   taken w held t = rw (held .free, accepted-taken (chipOf g w) (held .fine), t)
 
-  late : (w : World) → Held h g w → tickable (w .side .bus .clock) ≡ false → ticked h (chipOf g w) ≡ answer 4 (chipOf g w)
-  unfolding ticked tickRefusal
-  late w held t = rw (held .free, accepted-taken (chipOf g w) (held .fine), t)
-
   pub on : {w v : World} {i : ℕ} {r r' : Reads} → Going w i r → i < n → tickable (w .side .bus .clock) ≡ true → v ≡ tickWorld h g w → r' ≡ told (tickReads h g w)
       → length (v .matrix) ≡ length (w .matrix) → length (v .pointers) ≡ length (w .pointers) → length (v .bytes) ≡ length (w .bytes) → length (v .words) ≡ length (w .words)
       → Going v (i + 1) r'
@@ -107,9 +103,25 @@ module _ (h : Host) (g : Registers) (w₀ : World) (n : ℕ) where
     };
   }
 
-  pub no-more : {w : World} {i : ℕ} {r : Reads} → Going w i r → i < n → tickable (w .side .bus .clock) ≡ false → answer 4 (chipOf g w) ≡ ticksFrom h n (chipOf g w₀)
+-- a run from part to part: the reads are told where it ends
+module _ (h : Host) (g : Registers) (w₀ : World) (n : ℕ) where
+  pub record Running (w : World) (i : ℕ) (r : Reads) : Type 0 where
+    pub within : i ≤ n
+    pub heard : Reads
+    pub state : ticksFrom h i (chipOf g w₀) ≡ reading (chipOf g w) heard
+    pub last : n ≤ i → heard ≡ r
+    pub held : Held h g w
+
+  pub set-off : {r : Reads} → r ≡ told [] → Held h g w₀ → Running w₀ 0 r
+  set-off e held = record { within = omega arith; heard = told []; state = none h (chipOf g w₀); last = λ l. sym e; held = held }
+
+  late : (w : World) → Held h g w → tickable (w .side .bus .clock) ≡ false → ticked h (chipOf g w) ≡ answer 4 (chipOf g w)
+  unfolding ticked tickRefusal
+  late w held t = rw (held .free, accepted-taken (chipOf g w) (held .fine), t)
+
+  pub no-more : {w : World} {i : ℕ} {r : Reads} → Running w i r → i < n → tickable (w .side .bus .clock) ≡ false → answer 4 (chipOf g w) ≡ ticksFrom h n (chipOf g w₀)
   no-more {w} {i} r l t =
       Until.ended (ticked h) (ticksFrom h) (none h) (more h) (chipOf g w₀) (answer 4 (chipOf g w)) i n (next h (chipOf g w₀) (chipOf g w) i (r .state) ∙ late w (r .held) t) refl l
 
-  pub all-done : {w : World} {i : ℕ} {r : Reads} → Going w i r → n ≤ i → reading (chipOf g w) r ≡ ticksFrom h n (chipOf g w₀)
-  all-done {w} {i} r l = let q : i ≡ n = omega (arith, r .within) in rw (← q) (sym (r .state))
+  pub all-done : {w : World} {i : ℕ} {r : Reads} → Running w i r → n ≤ i → reading (chipOf g w) r ≡ ticksFrom h n (chipOf g w₀)
+  all-done {w} {i} r l = let q : i ≡ n = omega (arith, r .within) in rw (← q, ← r .last l) (sym (r .state))

@@ -23,8 +23,8 @@ use Rattle.chip.specs.Chip.{reading}
 use Rattle.world.specs.World.{World, chipOf}
 use Rattle.world.specs.Tick.{tickWorld, tickReads}
 use Rattle.sequencer.specs.Tick.{tickable, ticksFrom}
-use Rattle.sequencer.specs.Machinery.Parts.{Held, Roomy, Part}
-use Rattle.sequencer.proofs.Runs.{Going, next, one-tick, begun, on}
+use Rattle.sequencer.specs.Machinery.Parts.{Held, Roomy, Part, Piece}
+use Rattle.sequencer.proofs.Runs.{Going, Running, next, one-tick, begun, on}
 
 -- room for one more tick, and what is left after it
 pub room-now : (k : ℕ) (z : ℤ) → 0 < k → Roomy k z → tickable z ≡ true
@@ -41,9 +41,9 @@ pub fits-one : (n : ℕ) (z : ℤ) → 0 < n → canTick z → (0 < 1) × ((1 �
 fits-one n (pos c) l t = (omega arith, (omega arith, omega arith))
 fits-one n (negsuc c) l t = absurd t
 
-pub fits-some : (k n : ℕ) (z : ℤ) → 0 < k → k ≤ n → k ≤ 63 → canTick z → ltZ (pos 4611686018427387776) z ≡ false → (0 < k) × ((k ≤ n) × Roomy k z)
+pub fits-some : (k n : ℕ) (z : ℤ) → 0 < k → k ≤ n → k < 66 → canTick z → ltZ (pos 4611686018427387774) z ≡ false → (0 < k) × ((k ≤ n) × Roomy k z)
 fits-some k n (pos c) l m f t e =
-    let near : c ≤ 4611686018427387776 = ltb-false 4611686018427387776 c e in
+    let near : c ≤ 4611686018427387774 = ltb-false 4611686018427387774 c e in
     (l, (m, omega arith))
 fits-some k n (negsuc c) l m f t e = absurd t
 
@@ -109,12 +109,18 @@ module _ (h : Host) (g : Registers) (goes : ℕ → Bool) (w₀ : World) (n : �
       some t (yes q) = q
       some t (no q) = let k : i ≡ 0 = omega arith in absurd (true≢false (sym t ∙ ap goes (sym (p .first k)) ∙ s))
 
--- a run that a part carries on
-pub carried : {h : Host} {g : Registers} {w₀ w v : World} {n i m k : ℕ} {r r' : Reads} → Going h g w₀ n w i r → Part h g m true w k v r' → 0 < m → m ≤ n - i → i < n → Going h g w₀ n v (i + k) r'
-carried {h} {g} {w₀} {w} {v} {n} {i} {m} {k} r p some f l =
+-- a part that goes as a step of a run
+pub piece : {h : Host} {g : Registers} {w v : World} {n m k : ℕ} {r : Reads} → Part h g m true w k v r → 0 < m → m ≤ n → Piece h g n w k v r
+piece {r = r} p some f = record { within = omega (arith, p .within); heard = r; state = p .state; last = λ e. refl; held = p .held; moved = p .moved refl some }
+
+-- a run that a step carries on
+pub carried : {h : Host} {g : Registers} {w₀ w v : World} {n i k : ℕ} {r r' : Reads} → Running h g w₀ n w i r → Piece h g (n - i) w k v r' → i < n → Running h g w₀ n v (i + k) r'
+carried {h} {g} {w₀} {w} {v} {n} {i} {k} r p l =
     let sum : k + i ≡ i + k = omega arith in
     record {
       within = omega (arith, p .within);
-      state = rw sum at (some-after h (chipOf g w₀) (chipOf g w) i k (r .state) (p .moved refl some) ∙ p .state);
+      heard = p .heard;
+      state = rw sum at (some-after h (chipOf g w₀) (chipOf g w) i k (r .state) (p .moved) ∙ p .state);
+      last = λ e. p .last (omega (arith, p .within));
       held = p .held;
     }

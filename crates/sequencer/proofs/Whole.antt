@@ -14,6 +14,7 @@ use Rattle.laws.proofs.Choice.{left, right, by-test}
 use Rattle.schedule.specs.Kind.{Kind, the6569, the6567R8, kindOf, lastCycle}
 use Rattle.schedule.proofs.Places.{last-most, last-least}
 use Rattle.memory.specs.Lent.{Host, lentRefusal}
+use Rattle.memory.proofs.Lent.{host-lent, host-colour}
 use Rattle.registers.specs.declared.Registers.{Registers}
 use Rattle.registers.specs.Control.{timed}
 use Rattle.access.specs.declared.Reads.{Reads}
@@ -28,6 +29,7 @@ use Rattle.world.specs.Tick.{tickWorld, tickReads}
 use Rattle.lines.specs.Whole.{lineWorld}
 use Rattle.lines.specs.Lines.{ticksOn}
 use Rattle.lines.proofs.Lines.{a-line-is-its-ticks, another-line-can-follow}
+use Rattle.engine.specs.World.{Takes, Begins}
 use Rattle.sequencer.specs.Tick.{ticksFrom}
 use Rattle.sequencer.specs.Line.{lastLineable, atLineEnd, lineable}
 use Rattle.sequencer.specs.Machinery.Parts.{Held, Roomy, Piece, aheadOf, wholeNext}
@@ -48,6 +50,10 @@ unfolding clockFine lineable
 line-room the6569 (pos n) e t = omega (arith, leb-true n (lastLineable the6569) t)
 line-room the6567R8 (pos n) e t = omega (arith, leb-true n (lastLineable the6567R8) t)
 line-room k (negsuc n) e t = absurd (false≢true e)
+
+takes : (n : ℕ) (z : ℤ) → Roomy n z → Takes n z
+takes n (pos c) r = r
+takes n (negsuc c) r = r
 
 -- ---- how far a part may go
 
@@ -146,6 +152,24 @@ module _ (h : Host) (g : Registers) (w : World) (free : lentRefusal h ≡ 0) (fi
 -- the same count and the same state under other names
 named : (h : Host) (c : Chip) (g : Registers) {a b : ℕ} {u v : World} {r : Reads} → a ≡ b → v ≡ u → ticksFrom h b c ≡ reading (chipOf g u) r → ticksFrom h a c ≡ reading (chipOf g v) r
 named h c g p q s = rw (p, q) s
+
+-- what the code of a line may lean on
+pub begins : {h : Host} {g : Registers} {w : World} → Held h g w → atLineEnd (w .side) ≡ true → lineable (kindOf (w .side .beam .kind)) (w .side .bus .clock) ≡ true → Begins h w
+begins {h} {g} {w} held at can =
+    let f = accepted-fine (chipOf g w) (held .fine) in
+    let k = kindOf (w .side .beam .kind) in
+    record {
+      lent = host-lent h (held .free);
+      colour = host-colour h (held .free);
+      forty = held .forty;
+      eight = held .eight;
+      threes = held .threes;
+      eightWords = held .eightWords;
+      side = f .side;
+      cycle = eqb-true (w .side .beam .cycle) (lastCycle k) at;
+      clock = takes (lastCycle k) (w .side .bus .clock) (line-room k (w .side .bus .clock) (accepted-clock (chipOf g w) (held .fine)) can);
+      forced = f .forced;
+    }
 
 module _ {h : Host} {g : Registers} {w v : World} (held : Held h g w) (at : atLineEnd (w .side) ≡ true)
     (can : lineable (kindOf (w .side .beam .kind)) (w .side .bus .clock) ≡ true) (e : v ≡ lineWorld h g w)

@@ -1,4 +1,4 @@
-// The tick and a run of ticks.
+// The tick, a line as a whole, and runs of both.
 // A call asks nothing of its caller: what it does not take it refuses by number, with the state unchanged.
 ghost use mathlib.Core.Path.{_≡_};
 ghost use mathlib.Core.Bool.{Bool, not};
@@ -7,29 +7,25 @@ ghost use lib.ListN.{length};
 ghost use lib.IntN.{ℤ};
 ghost use Rattle.laws.specs.Clock.{inRange, canTick};
 ghost use Rattle.memory.specs.Lent.{host, lentRefusal};
+ghost use Rattle.schedule.specs.Kind.{kindOf};
 ghost use Rattle.schedule.specs.Machinery.Stretches.{beforeGraphics};
 ghost use Rattle.access.specs.Reads.{told};
 ghost use Rattle.access.specs.Machinery.Noted.{readsIn};
 ghost use Rattle.chip.specs.Chip.{chip};
 ghost use Rattle.chip.specs.Accept.{accepted};
 ghost use Rattle.world.specs.World.{chipOf};
-ghost use Rattle.sequencer.specs.World.{world};
+ghost use Rattle.engine.specs.World.{world};
 ghost use Rattle.world.specs.Tick.{tickWorld, tickReads};
 ghost use Rattle.sequencer.specs.Tick.{tickable, tickRefusal, ticked, ticksFrom};
-ghost use Rattle.sequencer.specs.Machinery.Parts.{Ready, Held, Roomy, Part, answered};
+ghost use Rattle.sequencer.specs.Line.{atLineEnd, lineable, lined, linesFrom};
+ghost use Rattle.sequencer.specs.Machinery.Parts.{Ready, Held, Roomy, Part, Piece, aheadOf, wholeNext, placeRefusal, answered};
 ghost use Rattle.sequencer.specs.Machinery.Skip.{skippableBy, skipped, coreLater};
 use chip::Answer;
 use chip::Chip;
 use chip::Picture;
-use picture::Pen;
+use engine::Core;
 use registers::Registers;
 use side::Side;
-
-// What a run changes besides the lent arrays.
-pub struct Core {
-    pub side: Side,
-    pub pen: Pen,
-}
 
 // What a tick leaves, and its reads in one number.
 pub struct Stepped {
@@ -360,18 +356,104 @@ fn can_tick(clock: i64) -> bool
     clock <= 4611686018427387902
 }
 
+fn can_line(kind: u8, clock: i64) -> bool
+    ensures { λ r. ⌜ r ≡ lineable (kindOf kind) clock ⌝ }
+{
+    if kind == schedule::KIND_6567R8 {
+        return clock <= 4611686018427387774;
+    }
+    clock <= 4611686018427387778
+}
+
+// How many ticks a part of a run may do: to the line's end where more than a line is left, so that lines as a whole can follow.
+fn ahead(kind: u8, cycle: u16, n: u64) -> u16
+    ensures { λ r. ⌜ r ≡ aheadOf (kindOf kind) cycle n ⌝ }
+{
+    let last = schedule::last_cycle(kind);
+    if (cycle < last) & ((last as u64) < n) {
+        return last - cycle;
+    }
+    last
+}
+
 // How many ticks a part of a run may do at most: all of them are ones that the clock takes.
-fn fitting(n: u64, clock: i64) -> u64
-    requires { ⌜ 0 < n ⌝ ∗ ⌜ canTick clock ⌝ }
+fn fitting(n: u64, clock: i64, most: u16) -> u64
+    requires { ⌜ 0 < n ⌝ ∗ ⌜ canTick clock ⌝ ∗ ⌜ 0 < most ⌝ ∗ ⌜ most < 66 ⌝ }
     ensures { λ r. ⌜ 0 < r ⌝ ∗ ⌜ r ≤ n ⌝ ∗ ⌜ Roomy r clock ⌝ }
 {
-    if 4611686018427387776 < clock {
+    if 4611686018427387774 < clock {
         return 1;
     }
-    if n < 63 {
+    if n < most as u64 {
         return n;
     }
-    63
+    most as u64
+}
+
+// Whether a line as a whole comes next: one begins here, it ends before the last of n ticks, whose reads are told, and the clock takes it.
+fn whole_next(kind: u8, cycle: u16, clock: i64, n: u64) -> bool
+    ensures { λ r. ⌜ r ≡ wholeNext (kindOf kind) cycle clock n ⌝ }
+{
+    let last = schedule::last_cycle(kind);
+    let can = can_line(kind, clock);
+    (cycle == last) & ((last as u64) < n) & can
+}
+
+// What a run does next: a line as a whole, or ticks up to the line's end.
+fn part(
+    core: Core,
+    regs: Registers,
+    matrix: &mut [u16],
+    pointers: &mut [u8],
+    bytes: &mut [u8],
+    words: &mut [u32],
+    ram: &[u8],
+    rom: &[u8],
+    colour: &[u8],
+    bank: u8,
+    n: u64,
+) -> Gone
+    requires { ⌜ Held (host (now ram) (now rom) (now colour) bank) regs (world core (now matrix) (now pointers) (now bytes) (now words)) ⌝ ∗ ⌜ 0 < n ⌝ ∗ ⌜ tickable (core .side .bus .clock) ≡ Bool.true ⌝ }
+    ensures { λ r. ⌜ Piece (host (now (ram .entry)) (now (rom .entry)) (now (colour .entry)) bank) regs n (world core (now (matrix .entry)) (now (pointers .entry)) (now (bytes .entry)) (now (words .entry))) (r .done) (world (r .core) (now (matrix .exit)) (now (pointers .exit)) (now (bytes .exit)) (now (words .exit))) (readsIn (r .noted)) ⌝ }
+{
+    let side = core.side;
+    let beam = side.beam;
+    let bus = side.bus;
+    let whole = whole_next(beam.kind, beam.cycle, bus.clock, n);
+    if whole {
+        let after = engine::line(
+            core,
+            regs,
+            matrix,
+            pointers,
+            bytes,
+            words,
+            ram,
+            rom,
+            colour,
+            bank,
+        );
+        return Gone {
+            done: beam.cycle as u64,
+            core: after,
+            noted: 0,
+        };
+    }
+    let to = ahead(beam.kind, beam.cycle, n);
+    let most = fitting(n, bus.clock, to);
+    stage(
+        core,
+        regs,
+        matrix,
+        pointers,
+        bytes,
+        words,
+        ram,
+        rom,
+        colour,
+        bank,
+        most,
+    )
 }
 
 // Ticks over the lent arrays, until n are done or the clock can take no more.
@@ -405,8 +487,7 @@ fn run(
                 noted: 0,
             };
         }
-        let most = fitting(n - done, bus.clock);
-        let gone = stage(
+        let gone = part(
             now,
             regs,
             matrix,
@@ -417,7 +498,7 @@ fn run(
             rom,
             colour,
             bank,
-            most,
+            n - done,
         );
         now = gone.core;
         noted = gone.noted;
@@ -559,4 +640,200 @@ pub fn tick(chip: Chip, ram: &[u8], rom: &[u8], colour: &[u8], bank: u8) -> Answ
     ensures { λ r. ⌜ r ≡ ticked (host (now (ram .entry)) (now (rom .entry)) (now (colour .entry)) bank) chip ⌝ }
 {
     ticks(chip, ram, rom, colour, bank, 1)
+}
+
+// Lines over the lent arrays, until n are done or the clock can take no more.
+fn line_run(
+    core: Core,
+    regs: Registers,
+    matrix: &mut [u16],
+    pointers: &mut [u8],
+    bytes: &mut [u8],
+    words: &mut [u32],
+    ram: &[u8],
+    rom: &[u8],
+    colour: &[u8],
+    bank: u8,
+    n: u64,
+) -> Ran
+    requires { ⌜ Held (host (now ram) (now rom) (now colour) bank) regs (world core (now matrix) (now pointers) (now bytes) (now words)) ⌝ ∗ ⌜ atLineEnd (core .side) ≡ Bool.true ⌝ }
+    ensures { λ r. ⌜ answered (r .refused) (chipOf regs (world (r .core) (now (matrix .exit)) (now (pointers .exit)) (now (bytes .exit)) (now (words .exit)))) (readsIn (r .noted)) ≡ linesFrom (host (now (ram .entry)) (now (rom .entry)) (now (colour .entry)) bank) n (chipOf regs (world core (now (matrix .entry)) (now (pointers .entry)) (now (bytes .entry)) (now (words .entry)))) ⌝ }
+{
+    let mut now = core;
+    let mut done = 0u64;
+    while done < n {
+        let side = now.side;
+        let beam = side.beam;
+        let bus = side.bus;
+        let can = can_line(beam.kind, bus.clock);
+        if !can {
+            return Ran {
+                refused: 4,
+                core: now,
+                noted: 0u64,
+            };
+        }
+        now = engine::line(
+            now,
+            regs,
+            matrix,
+            pointers,
+            bytes,
+            words,
+            ram,
+            rom,
+            colour,
+            bank,
+        );
+        done = done + 1;
+    }
+    Ran {
+        refused: 0,
+        core: now,
+        noted: 0u64,
+    }
+}
+
+// Lines over arrays.
+fn line_arrays(
+    core: Core,
+    regs: Registers,
+    matrix: &mut [u16; 40],
+    pointers: &mut [u8; 8],
+    bytes: &mut [u8; 24],
+    words: &mut [u32; 8],
+    ram: &[u8],
+    rom: &[u8],
+    colour: &[u8],
+    bank: u8,
+    n: u64,
+) -> Ran
+    requires { ⌜ lentRefusal (host (now ram) (now rom) (now colour) bank) ≡ 0 ⌝ ∗ ⌜ accepted (chipOf regs (world core (now matrix) (now pointers) (now bytes) (now words))) ≡ Bool.true ⌝ ∗ ⌜ atLineEnd (core .side) ≡ Bool.true ⌝ }
+    ensures { λ r. ⌜ answered (r .refused) (chipOf regs (world (r .core) (now (matrix .exit)) (now (pointers .exit)) (now (bytes .exit)) (now (words .exit)))) (readsIn (r .noted)) ≡ linesFrom (host (now (ram .entry)) (now (rom .entry)) (now (colour .entry)) bank) n (chipOf regs (world core (now (matrix .entry)) (now (pointers .entry)) (now (bytes .entry)) (now (words .entry)))) ⌝ }
+{
+    line_run(
+        core,
+        regs,
+        matrix,
+        pointers,
+        bytes,
+        words,
+        ram,
+        rom,
+        colour,
+        bank,
+        n,
+    )
+}
+
+// The same of a state, packed as a run of ticks is.
+fn line_parts(
+    regs: Registers,
+    side: Side,
+    picture: Picture,
+    ram: &[u8],
+    rom: &[u8],
+    colour: &[u8],
+    bank: u8,
+    n: u64,
+) -> Answer
+    requires { ⌜ lentRefusal (host (now ram) (now rom) (now colour) bank) ≡ 0 ⌝ ∗ ⌜ accepted (chip regs side picture) ≡ Bool.true ⌝ ∗ ⌜ atLineEnd side ≡ Bool.true ⌝ }
+    ensures { λ r. ⌜ r ≡ linesFrom (host (now (ram .entry)) (now (rom .entry)) (now (colour .entry)) bank) n (chip regs side picture) ⌝ }
+{
+    let pen = picture.pen;
+    let mut matrix = picture.matrix;
+    let mut pointers = picture.pointers;
+    let mut bytes = picture.bytes;
+    let mut words = picture.words;
+    let core = Core {
+        side: side,
+        pen: pen,
+    };
+    let ran = line_arrays(
+        core,
+        regs,
+        &mut matrix,
+        &mut pointers,
+        &mut bytes,
+        &mut words,
+        ram,
+        rom,
+        colour,
+        bank,
+        n,
+    );
+    let end = ran.core;
+    let side2 = end.side;
+    let pen2 = end.pen;
+    let picture2 = Picture {
+        pen: pen2,
+        matrix: matrix,
+        pointers: pointers,
+        bytes: bytes,
+        words: words,
+    };
+    let next = Chip {
+        regs: regs,
+        side: side2,
+        picture: picture2,
+    };
+    let reads = access::reads_in(ran.noted);
+    Answer {
+        refused: ran.refused,
+        chip: next,
+        reads: reads,
+    }
+}
+
+// Why a line is refused, apart from its clock.
+fn line_state(chip: Chip, ram: &[u8], rom: &[u8], colour: &[u8], bank: u8) -> u8
+    ensures { λ r. ⌜ r ≡ placeRefusal (host (now (ram .entry)) (now (rom .entry)) (now (colour .entry)) bank) chip ⌝ }
+{
+    let host = memory::lent_refusal(ram, rom, colour, bank);
+    if host != 0 {
+        return host;
+    }
+    let state = chip::state_refusal(chip);
+    if state != 0 {
+        return state;
+    }
+    let side = chip.side;
+    let beam = side.beam;
+    let last = schedule::last_cycle(beam.kind);
+    if beam.cycle != last {
+        return 11;
+    }
+    0
+}
+
+// A run of lines, each written as a whole: what is lent and acceptance are tested once, since a line keeps them and ends where the next begins.
+pub fn lines(chip: Chip, ram: &[u8], rom: &[u8], colour: &[u8], bank: u8, n: u64) -> Answer
+    ensures { λ r. ⌜ r ≡ linesFrom (host (now (ram .entry)) (now (rom .entry)) (now (colour .entry)) bank) n chip ⌝ }
+{
+    if n == 0 {
+        return Answer {
+            refused: 0,
+            chip: chip,
+            reads: access::no_reads(),
+        };
+    }
+    let refused = line_state(chip, ram, rom, colour, bank);
+    if refused != 0 {
+        return Answer {
+            refused: refused,
+            chip: chip,
+            reads: access::no_reads(),
+        };
+    }
+    let regs = chip.regs;
+    let side = chip.side;
+    let picture = chip.picture;
+    line_parts(regs, side, picture, ram, rom, colour, bank, n)
+}
+
+// The next line, from a state at the last cycle of one.
+pub fn line(chip: Chip, ram: &[u8], rom: &[u8], colour: &[u8], bank: u8) -> Answer
+    ensures { λ r. ⌜ r ≡ lined (host (now (ram .entry)) (now (rom .entry)) (now (colour .entry)) bank) chip ⌝ }
+{
+    lines(chip, ram, rom, colour, bank, 1)
 }
