@@ -139,26 +139,34 @@ impl Maker {
     }
 
     pub fn next(&mut self) -> Case {
-        let call = if self.random.chance(3, 5) { TICK } else { self.random.pick(&OTHERS) };
+        let call = match self.random.below(20) {
+            0..=9 => TICK,
+            10 | 11 => LINE,
+            12 => TICKS,
+            _ => self.random.pick(&OTHERS),
+        };
+        let ticks = TICKING.contains(&call);
         let kind = self.next_kind();
+        let last = column(kind).last_cycle;
         let mut arguments = [0; 4];
         self.random.fill(&mut arguments);
         let mut bank = self.random.below(4) as u8;
         let cycle = match call {
             TICK => self.next_cycle(kind, 0),
+            // A line begins at the last cycle alone, and a run of ticks has whole lines from there on.
+            LINE if self.random.chance(15, 16) => last,
+            TICKS if self.random.flag() => last,
             WRITE_CONTROL_1 => self.next_cycle(kind, 1),
             WRITE_CONTROL_2 => self.next_cycle(kind, 2),
             // The cycles with rules of their own, of both kinds, and their neighbours.
             WRITE_Y_EXPAND if self.random.flag() => self.random.pick(&[14, 15, 15, 16, 54, 55, 55, 56, 56, 57]),
             BA_HIGH_AT_PHI1 if self.random.chance(1, 3) => self.random.pick(&[54, 55, 56, 57, 58]),
-            _ => self.random.within(1, column(kind).last_cycle.into()) as u16,
+            _ => self.random.within(1, last.into()) as u16,
         };
-        let mut state = match call {
-            TICK | LATE_BYTE => self.nearly_accepted(kind, cycle),
-            _ => self.any(kind, cycle),
-        };
+        let takes = ticks || call == LATE_BYTE;
+        let mut state = if takes { self.nearly_accepted(kind, cycle) } else { self.any(kind, cycle) };
         // It is refused before anything else that is wrong with the state; what refuses nothing goes on with it.
-        self.lose_kind(&mut state, if matches!(call, TICK | LATE_BYTE) { 40 } else { 12 });
+        self.lose_kind(&mut state, if takes { 40 } else { 12 });
         let r = &mut self.random;
         match call {
             // The scene's own kind may be another: it is not looked at.
@@ -176,12 +184,19 @@ impl Maker {
             WRITE | READ if r.flag() => arguments[0] &= 0x3F,
             WRITE_CONTROL_1 if r.chance(7, 8) => arguments[0] = bend_to_compare(r, &mut state),
             WRITE_CONTROL_2 => arguments[0] = control_2(r, state.ctrl2),
+            LINE => bend_to_line(r, &mut state),
+            TICKS => {
+                if cycle == last {
+                    bend_to_line(r, &mut state);
+                }
+                arguments[..2].copy_from_slice(&run_of(r, last).to_le_bytes());
+            }
             PLACE_CONTROLS if r.chance(3, 4) => arguments[3] &= 1,
             PLACE_CONTROLS if r.flag() => arguments[3] = 2,
             _ => {}
         }
-        // Only a tick minds the bank.
-        if (call == TICK && r.chance(1, 64)) || (call != TICK && r.chance(1, 8)) {
+        // Only what ticks minds the bank.
+        if (ticks && r.chance(1, 64)) || (!ticks && r.chance(1, 8)) {
             bank = r.pick(&[4, 5, 128, 255]);
         }
         self.apart += u64::from(self.flags != state.dma);
@@ -238,7 +253,7 @@ enum End {
 
 /// Every end, so that each comes in its turn.
 fn all_ends() -> Vec<End> {
-    let mut all = vec![End::Past(0, CYCLES_LOST + 1, 255), End::Past(0, RETIRED, RETIRED)];
+    let mut all = vec![End::Past(0, TICKS + 1, 255), End::Past(0, RETIRED, RETIRED)];
     all.extend(fields().into_iter().filter_map(|field| match field.sort {
         Sort::Number | Sort::Signed => None,
         Sort::Flag => Some(End::Past(6 + field.offset, 2, 255)),

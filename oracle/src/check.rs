@@ -9,7 +9,7 @@ use crate::late::Met;
 use crate::memory::Memory;
 use crate::play::play;
 use crate::reads::{Reads, Reason};
-use crate::replay::{answer_case, called, perform, Case, AFTER, OTHERS, READS, TICK};
+use crate::replay::{answer_case, called, perform, Case, AFTER, OTHERS, READS, TICK, TICKING};
 use crate::runs::{late, plain, Files};
 use crate::scene::{fields, State};
 use crate::vic::glue::Machine;
@@ -95,7 +95,7 @@ fn calls(seed: u64, count: u64) -> bool {
         }
         counts[usize::from(case.call)] += 1;
     }
-    let told: Vec<String> = [TICK].iter().chain(&OTHERS).map(|call| format!("{} {}", called(*call).unwrap_or_default(), counts[usize::from(*call)])).collect();
+    let told: Vec<String> = TICKING.iter().chain(&OTHERS).map(|call| format!("{} {}", called(*call).unwrap_or_default(), counts[usize::from(*call)])).collect();
     println!("{count} answers, none differs: {}; {} ticks with DEN late", told.join(", "), judges.original.late());
     judges.original.records().agree()
 }

@@ -15,6 +15,7 @@ pub const BANK_ABOVE_3: Refusal = 2;
 pub const NOT_ACCEPTED: Refusal = 3;
 pub const CLOCK_AT_END: Refusal = 4;
 pub const COMPARE_ABOVE_511: Refusal = 5;
+pub const NOT_AT_LINE_END: Refusal = 11;
 pub const UNKNOWN_KIND: Refusal = 12;
 
 /// What was found of the original where it says more than an answer, or less. It says twice that a sprite fetches, and a state says it

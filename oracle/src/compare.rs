@@ -2,7 +2,7 @@
 
 use crate::kind::{known, MOS6567R8, MOS6569};
 use crate::late::{is_late, MOVED};
-use crate::replay::{called, fill, open, Case, AFTER, ANSWER, CASE, MEMORIES, READS, TICK};
+use crate::replay::{called, fill, open, Case, AFTER, ANSWER, CASE, MEMORIES, READS, TICK, TICKS};
 use crate::scene::{fields, Field, Sort, State};
 use std::io::{self, Read};
 
@@ -59,12 +59,15 @@ pub fn compare(input: &str, ours: &str, theirs: &str, alone: bool) -> io::Result
         ntsc += u64::from(kind == MOS6567R8);
         unknown += u64::from(known(kind).is_none());
         model_differing += u64::from(kind != MOS6569 && a != b);
-        let is_late = b[0] == 0 && decoded.is_some_and(|case| case.call == TICK && is_late(&case.state));
+        // A run finds DEN late with its first tick or with none, and a line, which begins with the latch stored, never.
+        let is_late = b[0] == 0 && decoded.as_ref().is_some_and(|case| matches!(case.call, TICK | TICKS) && case.ticks() > 0 && is_late(&case.state));
+        let is_tick = decoded.is_some_and(|case| case.call == TICK);
         late += u64::from(is_late);
         if a != b && is_late && alone {
             late_differing += 1;
             let mut beyond = false;
-            for field in table.iter().filter(|field| a[field.offset..][..field.size] != b[field.offset..][..field.size]) {
+            // What the ticks after it make of it is left out as a whole.
+            for field in table.iter().filter(|field| is_tick && a[field.offset..][..field.size] != b[field.offset..][..field.size]) {
                 match MOVED.iter().position(|name| *name == family(field)) {
                     Some(place) => moved[place] += 1,
                     None => {

@@ -1,7 +1,8 @@
 //! Replay: cases in, answers out (docs/FORMATS.md, "Replay").
 
-use crate::chip::{Chip, Judges, Refusal};
-use crate::kind::MOS6569;
+use crate::accept::{takes, CLOCK_LIMIT};
+use crate::chip::{Chip, Judges, Refusal, BANK_ABOVE_3, CLOCK_AT_END, NOT_AT_LINE_END};
+use crate::kind::{column, MOS6569};
 use crate::memory::{Memory, COLOUR, RAM, ROM};
 use crate::reads::Reads;
 use crate::scene::{State, SCENE};
@@ -30,8 +31,13 @@ pub const WRITE_CONTROL_1: u8 = 10;
 pub const WRITE_CONTROL_2: u8 = 11;
 pub const POWER_UP: u8 = 12;
 pub const CYCLES_LOST: u8 = 13;
+pub const LINE: u8 = 14;
+pub const TICKS: u8 = 15;
 
-/// Every call but the tick.
+/// The calls that tick: one tick, a line of them, a number of them in one call.
+pub const TICKING: [u8; 3] = [TICK, LINE, TICKS];
+
+/// Every other call.
 pub const OTHERS: [u8; 12] = [
     WRITE,
     WRITE_Y_EXPAND,
@@ -63,6 +69,8 @@ pub fn called(call: u8) -> Option<&'static str> {
         WRITE_CONTROL_2 => "control 2 write",
         POWER_UP => "power-up",
         CYCLES_LOST => "cycles lost",
+        LINE => "line",
+        TICKS => "run of ticks",
         _ => return None,
     })
 }
@@ -99,6 +107,38 @@ impl Case {
             _ => self.state.kind,
         }
     }
+
+    /// How many ticks the call asks for.
+    pub fn ticks(&self) -> u16 {
+        match self.call {
+            TICK => 1,
+            LINE => column(self.state.kind).last_cycle,
+            TICKS => u16::from_le_bytes([self.arguments[0], self.arguments[1]]),
+            _ => 0,
+        }
+    }
+}
+
+/// Why no line begins here (02 (xii)), in the order of the refusals; the lengths of the memories, which come first, cannot be wrong here.
+fn no_line(case: &Case) -> Result<(), Refusal> {
+    let (s, last) = (&case.state, column(case.state.kind).last_cycle);
+    if case.bank > 3 {
+        return Err(BANK_ABOVE_3);
+    }
+    takes(s)?;
+    if s.cycle != last {
+        return Err(NOT_AT_LINE_END);
+    }
+    // The clock takes the last of the ticks too.
+    if s.clock > CLOCK_LIMIT - 2 * i64::from(last) {
+        return Err(CLOCK_AT_END);
+    }
+    Ok(())
+}
+
+/// Ticks one after the other, with no other call between them, up to the first that is refused.
+fn ticks(chip: &mut dyn Chip, count: u16) -> Result<(), Refusal> {
+    (0..count).try_for_each(|_| chip.tick())
 }
 
 /// One call on a given state. The chip is left in the state afterwards.
@@ -112,7 +152,8 @@ pub fn perform(chip: &mut dyn Chip, case: &Case) -> Result<u16, Refusal> {
     chip.load(&case.state);
     chip.see(case.bank);
     match case.call {
-        TICK => chip.tick().map(|()| 0),
+        TICK | TICKS => ticks(chip, case.ticks()).map(|()| 0),
+        LINE => no_line(case).and_then(|()| ticks(chip, case.ticks())).map(|()| 0),
         WRITE => {
             chip.write(a.into(), b);
             Ok(0)
@@ -149,8 +190,9 @@ pub fn answer_case(chip: &mut dyn Chip, case: &Case) -> [u8; ANSWER] {
         Ok(value) => (0, value),
         Err(refusal) => (refusal, 0),
     };
-    // Only a tick reads, and one that is refused does not (02 (viii)).
-    let reads = if case.call == TICK && refusal == 0 { chip.reads() } else { Reads::default() };
+    // Only a tick reads, and one that is refused does not (02 (viii)). A run tells the reads of its last one, a line none (02 (xii)).
+    let tells = matches!(case.call, TICK | TICKS) && case.ticks() > 0 && refusal == 0;
+    let reads = if tells { chip.reads() } else { Reads::default() };
     let mut bytes = [0; ANSWER];
     bytes[0] = refusal;
     bytes[1..READS].copy_from_slice(&value.to_le_bytes());

@@ -11,7 +11,7 @@ use crate::late::is_late;
 use crate::memory::Memory;
 use crate::model::{powered, Model};
 use crate::reads::{Reads, Reason};
-use crate::replay::{answer_case, Case, AFTER, CYCLES_LOST, LATE_BYTE, OTHERS, READS, TICK};
+use crate::replay::{answer_case, Case, AFTER, CYCLES_LOST, LATE_BYTE, LINE, OTHERS, READS, TICK, TICKS};
 use crate::rng::Rng;
 use crate::scene::{fields, flag_at, renewed, Sort, State, SCENE, WITHOUT_KIND, WITHOUT_LOST};
 use crate::states::{accepted_state, wild_state};
@@ -42,6 +42,7 @@ const CHECKS: &[Check] = &[
     ("what a tick reads: answers, and the text of bus", the_told_reads),
     ("what a tick reads: the 6567R8", the_reads_of_the_6567r8),
     ("cycles lost on a line", the_lost_cycles),
+    ("a line, a run of ticks, and what refuses them", the_lines),
     ("the 6567R8: its line, its frame and its slots", the_column),
     ("the 6567R8: power-up, and what is refused", the_kinds),
     ("the 6567R8: what goes with sprite 0's slot", the_first_slot),
@@ -714,6 +715,58 @@ fn the_lost_cycles() -> bool {
         let case = Case { call: CYCLES_LOST, bank: 9, arguments: [0; 4], state: State { cycle: 1, lost: 200, ..powered(kind) } };
         let asked = answer_case(chip.as_mut(), &case)[..3] == [0, 200, 0];
         line && sprite && next && given && warning && limits && asked
+    })
+}
+
+/// 02 (xii): what a line is refused by, each before the next, with the state as it was; that it is as many ticks as it has cycles; and what
+/// a run of ticks tells and keeps.
+fn the_lines() -> bool {
+    let memory = pictured;
+    let mut chips: [Box<dyn Chip>; 3] = [Box::new(Machine::new(memory())), Box::new(Model::new(memory(), MOS6569)), Box::new(Model::new(memory(), MOS6567R8))];
+    chips.iter_mut().enumerate().all(|(number, chip)| {
+        let kind = chip.state().kind;
+        let last = column(kind).last_cycle;
+        let end = before(kind, 1);
+        let mut told = |call: u8, bank: u8, ticks: u16, state: &State| -> (u8, State, [u8; 6]) {
+            let [a, b] = ticks.to_le_bytes();
+            let bytes = answer_case(chip.as_mut(), &Case { call, bank, arguments: [a, b, 9, 9], state: state.clone() });
+            let after = State::decode(&bytes[AFTER..]).expect("an answer has a scene");
+            (bytes[0], after, bytes[READS..AFTER].try_into().expect("six bytes"))
+        };
+        let mut refused = |bank: u8, number: u8, change: &dyn Fn(&mut State)| {
+            let mut state = end.clone();
+            change(&mut state);
+            told(LINE, bank, 0, &state) == (number, state, [0; 6])
+        };
+        let middle = |s: &mut State| s.cycle = last - 1;
+        let limit = CLOCK_LIMIT - 2 * i64::from(last);
+        let order = refused(4, 2, &|s| (middle(s), s.vc = 1024, s.clock = CLOCK_LIMIT).0)
+            && refused(0, 3, &|s| (middle(s), s.vc = 1024, s.clock = CLOCK_LIMIT).0)
+            && refused(0, 11, &|s| (middle(s), s.clock = CLOCK_LIMIT).0)
+            && refused(0, 11, &|s| s.cycle = 1)
+            && [limit + 1, limit + 2, CLOCK_LIMIT - 2, CLOCK_LIMIT].iter().all(|clock| refused(0, 4, &|s| s.clock = *clock));
+        // The original has no unknown kind.
+        let unknown = number == 0
+            || (refused(0, 12, &|s| (s.kind, s.cycle, s.vc) = (UNKNOWN[0], 1, 1024)) && refused(4, 2, &|s| (s.kind, s.cycle, s.vc) = (UNKNOWN[0], 1, 1024)));
+        // The last clocks that take a line, an odd one too.
+        let taken = [0, limit - 1, limit].iter().all(|clock| {
+            let state = State { clock: *clock, ..end.clone() };
+            let (refusal, after, reads) = told(LINE, 0, 0, &state);
+            let mut ticked = state;
+            (0..last).for_each(|_| ticked = told(TICK, 0, 0, &ticked).1);
+            (refusal, after.cycle, after.raster, after.clock, reads) == (0, last, 101, clock + 2 * i64::from(last), [0; 6]) && after == ticked
+        });
+        // No tick takes every state. A run tells the reads of its last tick, here sprite 1's pointer slot, and keeps what was done before the
+        // clock ended it.
+        let wild = State { vc: 1024, clock: -1, ..end.clone() };
+        let none = told(TICKS, 9, 0, &wild) == (0, wild, [0; 6]);
+        let pointer = column(kind).first_pointer + 2;
+        let (refusal, after, reads) = told(TICKS, 0, pointer, &end);
+        let some = (refusal, after.cycle, reads) == (0, pointer, [1, 0xF9, 0x07, 0, 0, 0]);
+        let (refusal, after, reads) = told(TICKS, 0, 300, &State { clock: CLOCK_LIMIT - 5, ..end.clone() });
+        let ended = (refusal, after.cycle, after.clock, reads) == (4, 2, CLOCK_LIMIT - 1, [0; 6]);
+        let many = told(TICKS, 0, 256 + last, &end).1.clock == end.clock + 2 * (256 + i64::from(last));
+        order && unknown && taken && none && some && ended && many
     })
 }
 

@@ -159,6 +159,47 @@ pub fn bend_to_idle(r: &mut Rng, s: &mut State) {
     s.forced_clock = s.clock + r.pick(&[0, 1, 2, 2, 2, 3, 4]);
 }
 
+/// Bends a state at the last cycle of its line towards what a line as a whole has to itself (02 (xii)): a forced clock inside the line, and
+/// with it forty columns that may merge; a bad line that is no rise, or that a frame's end ends; the last clocks that take a line.
+pub fn bend_to_line(r: &mut Rng, s: &mut State) {
+    let last = i64::from(column(s.kind).last_cycle);
+    match r.below(8) {
+        0 | 1 => {
+            s.displaying = true;
+            s.rc = 0;
+            s.den_latch &= r.chance(1, 4);
+            (s.vertical_border, s.output_disabled) = (r.chance(1, 8), r.chance(1, 4));
+            s.bottom = if r.chance(3, 4) { 0xFFFF } else { s.bottom };
+            s.clock = s.clock.clamp(64, CLOCK_LIMIT - 4 * last);
+            s.forced_clock = s.clock + r.within(-24, 2 * last + 4);
+        }
+        2 => {
+            if !(0x2F..=0xF6).contains(&s.raster) {
+                s.raster = r.within(0x2F, 0xF6) as u16;
+            }
+            s.den_latch = true;
+            s.ctrl1 = (s.ctrl1 & 0xE8) | 0x10 | ((s.raster + 1) as u8 & 7);
+            s.bad_line = r.flag();
+            s.displaying = r.chance(1, 4);
+            s.frame_flag = r.chance(1, 4);
+        }
+        3 if r.flag() => s.clock = CLOCK_LIMIT - 2 * last + r.pick(&[-5, -4, -3, -2, -1, 0, 0, 1, 2, 3, 4]),
+        _ => {}
+    }
+}
+
+/// How many ticks a run has: none, some, whole lines and just beside them, and at times more than a frame.
+pub fn run_of(r: &mut Rng, last: u16) -> u16 {
+    match r.below(16) {
+        0 => 0,
+        1..=4 => 1 + r.below(u64::from(last)) as u16,
+        5..=12 => last * (1 + r.below(6) as u16) + r.pick(&[0, 0, 1, 2, last - 1]) - u16::from(r.chance(1, 4)),
+        13 | 14 => r.below(1000) as u16,
+        _ if r.chance(1, 16) => r.word() / 2,
+        _ => r.below(3000) as u16,
+    }
+}
+
 /// A value for $D011 while the register holds another: a bit of it changed, its mode kept, or any; DEN mostly set, YSCROLL often that
 /// of the line. Bit 7 is the compared line's bit 8.
 pub fn control_1(r: &mut Rng, held: u8, raster: u16, compared: u16) -> u8 {

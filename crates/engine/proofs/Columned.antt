@@ -1,11 +1,9 @@
 -- What goes by the kind in the sprites' counters. Assumes nothing.
-use mathlib.Core.Path.{_≡_, refl, sym, _∙_}
+use mathlib.Core.Path.{_≡_, refl}
 use mathlib.Core.Bool.{Bool, true, false, cond}
 use Prim.Native.Nat.{ℕ, _<_}
 use native.Mathlib.Omega.{arith}
 use lib.Dec.{eqb}
-use mathlib.Core.List.{List, map}
-use lib.ListN.{length, length-map}
 use Rattle.schedule.specs.Kind.{Kind, the6569, the6567R8, kindOf}
 use Rattle.engine.specs.Counters.{early3, late3}
 
@@ -20,7 +18,3 @@ by-test false = refl
 pub late3-is : (kind : ℕ) → eqb kind 1 ≡ late3 (kindOf kind)
 unfolding kindOf
 late3-is kind = by-test (eqb kind 1)
-
--- an array's length stands at the list of what its elements are made of
-pub unmapped : {X Y : Type 0} (f : X → Y) (l : List X) (n : ℕ) → length (map f l) ≡ n → length l ≡ n
-unmapped f l n e = sym (length-map l f) ∙ e

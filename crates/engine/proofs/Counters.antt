@@ -2,27 +2,26 @@
 use mathlib.Core.Path.{_≡_, refl, sym, _∙_, ap}
 use mathlib.Core.Bool.{Bool, true, false, not, _&&_, _||_, cond, or-true}
 use mathlib.Core.List.{List, [], _∷_}
-use Prim.Native.Nat.{ℕ, zero, suc, _+_, _-_, _%_, _<_, _≤_}
+use Prim.Native.Nat.{ℕ, zero, suc, _+_, _-_, _%_, _<_}
 use native.Mathlib.Omega.{arith}
 use native.Mathlib.Decide.{ℕ-discrete}
 use borrow.Author.Tests.{eq-eqb, ne-eqb}
-use lib.Dec.{T, eqb}
+use lib.Dec.{eqb}
 use lib.Bits.{bitAnd, bitOr, bitXor, and-lt, or-lt, xor-lt}
 use lib.ListN.{length, getD}
 use Rattle.laws.specs.Bits.{hasBit, withBit}
-use Rattle.laws.specs.Pick.{pick}
-use Rattle.laws.proofs.Choice.{under, picks, and-true, or-false}
+use Rattle.laws.proofs.Choice.{picks, and-true, or-false}
 use Rattle.schedule.specs.Kind.{Kind, the6569, the6567R8}
 use Rattle.sprites.specs.declared.Sprite.{Sprite}
 use Rattle.sprites.specs.declared.Sprites.{Sprites}
-use Rattle.sprites.specs.Set.{sprite-mc≔, sprite-base≔, flip≔, vmatch≔, prev≔, clear≔, display≔}
-use Rattle.sprites.specs.Sprites.{none, spriteAt, spriteAt≔, upTo, nextBase, stepOne, mcbaseStepped, starts, dmaBegun, startOne, startAt, started, firstPhased, secondPhased, loadOne, loaded, showOne, showAt, shown, mcLoaded, fetched}
-use Rattle.lines.specs.Sprites.{Slot, pointing, fetching, pair, earlySlots, lateSlots, slotMoves, slotsMove, spritesStepped, spritesFirst, spritesSecond, spritesLoaded, spritesLine}
+use Rattle.sprites.specs.Set.{sprite-mc≔, sprite-base≔, each≔, flip≔, vmatch≔, prev≔, display≔}
+use Rattle.sprites.specs.Sprites.{none, spriteAt, spriteAt≔, upTo, stepOne, mcbaseStepped, starts, dmaBegun, startOne, startAt, started, firstPhased, secondPhased, loadOne, loaded, showOne, showAt, shown, mcLoaded, fetched}
+use Rattle.lines.specs.Sprites.{Slot, pointing, fetching, earlySlots, lateSlots, slotMoves, slotsMove, spritesStepped, spritesFirst, spritesSecond, spritesLoaded}
 use Rattle.lines.specs.Bus.{Masks, masksOf}
 use Rattle.engine.specs.declared.Bases.{Bases}
-use Rattle.engine.specs.Counters.{Sound, movedBy, baseBy, early3, late3, basesOf, maskOf, endingOf, equalOf, settledBy, meetsOf, staysOf, startsOf, dmaOf, settledOf}
+use Rattle.engine.specs.Counters.{Sound, movedBy, baseBy, late3, basesOf, endingOf, equalOf, settledBy, meetsOf, staysOf, startsOf, dmaOf, settledOf, incrementedOf}
 use Rattle.engine.proofs.Masks.{not-bit, and-bit, or-bit, xor-bit, other, by-bits, nth, mask-small, mask-bit}
-use Rattle.engine.proofs.Views.{View, viewOf, over-sound, over, baseIn, stepV, step-local, begunV, startV, start-local, loadV, load-local, showV, show-local, fetchV, fetch-local}
+use Rattle.engine.proofs.Views.{View, viewOf, over-sound, over, stepV, step-local, startV, start-local, loadV, load-local, showV, show-local, fetchV, fetch-local}
 
 -- the slots of a list
 abbrev placeOf : Slot → ℕ
@@ -291,18 +290,6 @@ show-keeps line my enable = keep rest (showAt line my enable) one
     one : (k : ℕ) (s : Sprites) → rest (showAt line my enable k s) ≡ rest s
     one k s = unless rest (hasBit (s .dma) k && hasBit enable k && eqb (getD my k 0) line) (display≔ (withBit (s .display) k) s) s refl
 
-fetch-keeps : (k bytes : ℕ) (s : Sprites) → rest (fetched k bytes s) ≡ rest s
-unfolding fetched
-fetch-keeps k bytes s = unless rest (hasBit (s .dma) k) (spriteAt≔ k (sprite-mc≔ ((spriteAt s k .mc + bytes) % 64) (spriteAt s k)) s) s refl
-
-slot-keeps : (x : Slot) (s : Sprites) → rest (slotMoves x s) ≡ rest s
-slot-keeps (pointing n) s = fetch-keeps n 1 s
-slot-keeps (fetching n) s = fetch-keeps n 2 s
-
-slots-keep : (xs : List Slot) (s : Sprites) → rest (slotsMove xs s) ≡ rest s
-slots-keep [] s = refl
-slots-keep (x ∷ more) s = slots-keep more (slotMoves x s) ∙ slot-keeps x s
-
 abbrev restOf : ℕ → ℕ → ℕ → Rest
 restOf c p v = record { clear = c; prev = p; vmatch = v }
 
@@ -371,7 +358,7 @@ made e f c d p i v = record { each = e; flip = f; clear = c; dma = d; prev = p; 
 alike : {e e' : List Sprite} {f f' c c' d d' p p' i i' v v' : ℕ} → e ≡ e' → f ≡ f' → c ≡ c' → d ≡ d' → p ≡ p' → i ≡ i' → v ≡ v' → made e f c d p i v ≡ made e' f' c' d' p' i' v'
 alike pe pf pc pd pp pi pv = rw (pe, pf, pc, pd, pp, pi, pv)
 
-module _ (k : Kind) (xs : List Slot) (wx : Within xs) (s : Sprites) (raster : ℕ) (my : List ℕ) (enable yexp : ℕ) (h : Sound s) (he : enable < 256) (hy : yexp < 256) where
+module _ (k : Kind) (s : Sprites) (raster : ℕ) (my : List ℕ) (enable yexp : ℕ) (h : Sound s) (he : enable < 256) (hy : yexp < 256) where
   abbrev B : Bases
   B = basesOf k s
 
@@ -421,22 +408,19 @@ module _ (k : Kind) (xs : List Slot) (wx : Within xs) (s : Sprites) (raster : �
   second-fine : Sound (spritesSecond k raster my enable yexp s)
   second-fine = second-sound (spritesFirst k raster my enable yexp s) first-fine raster my enable yexp hy
 
-  loaded-fine : Sound (spritesLoaded k raster my enable yexp s)
+  pub loaded-fine : Sound (spritesLoaded k raster my enable yexp s)
   loaded-fine = loaded-sound (spritesSecond k raster my enable yexp s) second-fine raster my enable yexp hy
 
-  -- after the slots of a list
-  abbrev whole : Sprites
-  whole = slotsMove xs (spritesLoaded k raster my enable yexp s)
+  -- what the load of MC leaves
+  abbrev left : Sprites
+  left = spritesLoaded k raster my enable yexp s
 
-  pub line-fine : Sound whole
-  line-fine = slots-sound xs (spritesLoaded k raster my enable yexp s) wx loaded-fine
-
-  pub record Facts (n b : ℕ) (late : Bool) (more : ℕ) : Type 0 where
-    pub sprite : spriteAt whole n ≡ settledBy s n going dma b late more
-    pub on : hasBit (whole .dma) n ≡ hasBit dma n
+  pub record Facts (n b : ℕ) : Type 0 where
+    pub sprite : spriteAt left n ≡ settledBy s n going b
+    pub on : hasBit (left .dma) n ≡ hasBit dma n
     pub first : hasBit (spritesFirst k raster my enable yexp s .dma) n ≡ hasBit dma n
-    pub flip : hasBit (whole .flip) n ≡ hasBit (bitAnd (bitXor (s .flip) yexp) (255 - bitAnd going yexp)) n
-    pub shown : hasBit (whole .display) n ≡ hasBit (bitAnd (bitOr (s .display) meets) dma) n
+    pub flip : hasBit (left .flip) n ≡ hasBit (bitAnd (bitXor (s .flip) yexp) (255 - bitAnd going yexp)) n
+    pub shown : hasBit (left .display) n ≡ hasBit (bitAnd (bitOr (s .display) meets) dma) n
 
   -- one sprite: its base by number, and its slots
   module _ (n b : ℕ) (c : n < 8) (early : Bool) (bytes : ℕ)
@@ -504,28 +488,21 @@ module _ (k : Kind) (xs : List Slot) (wx : Within xs) (s : Sprites) (raster : �
         ∙ ap (λ (v : View). showV line my enable n (maskedV (loadV n (startV line my enable yexp n v)))) first-on
         ∙ phases moved b (hasBit (s .flip) n) (hasBit 0 n) (hasBit (s .display) n) (hasBit yexp n) n line my still en eq
 
-    module _ (late : Bool) (more : ℕ) (late-moved : (v : View) → slotsV xs n v ≡ movedView late more v) where
-      line-view : viewOf whole n ≡ movedView late more ends
-      line-view =
-          slots-view xs n (spritesLoaded k raster my enable yexp s) wx c loaded-fine
-          ∙ ap (slotsV xs n) loads ∙ late-moved ends
-
-      pub facts : Facts n b late more
-      unfolding moved
-      facts =
-          record {
-            sprite = ap (λ (v : View). v .sprite) line-view ∙ sym (rw (dma-bit, going-bit, picks (en && eq && not still) 0 b));
-            on = ap (λ (v : View). v .on) line-view ∙ sym dma-bit;
-            first = ap (λ (v : View). v .on) first-on ∙ start-on moved b (hasBit (s .flip) n) (hasBit 0 n) (hasBit (s .display) n) (hasBit yexp n) n line my still en eq ∙ sym dma-bit;
-            flip = ap (λ (v : View). v .flip) line-view ∙ sym flip-bit;
-            shown = ap (λ (v : View). v .shown) line-view ∙ sym shown-bit;
-          }
+    pub facts : Facts n b
+    unfolding moved
+    facts =
+        record {
+          sprite = ap (λ (v : View). v .sprite) loads ∙ sym (rw (going-bit, picks (en && eq && not still) 0 b));
+          on = ap (λ (v : View). v .on) loads ∙ sym dma-bit;
+          first = ap (λ (v : View). v .on) first-on ∙ start-on moved b (hasBit (s .flip) n) (hasBit 0 n) (hasBit (s .display) n) (hasBit yexp n) n line my still en eq ∙ sym dma-bit;
+          flip = ap (λ (v : View). v .flip) loads ∙ sym flip-bit;
+          shown = ap (λ (v : View). v .shown) loads ∙ sym shown-bit;
+        }
 
   -- the eight of them
-  line-rest : rest whole ≡ restOf 0 (spritesFirst k raster my enable yexp s .dma) 0
-  line-rest =
-      slots-keep xs (spritesLoaded k raster my enable yexp s)
-      ∙ loaded-keeps raster my enable (spritesSecond k raster my enable yexp s)
+  left-rest : rest left ≡ restOf 0 (spritesFirst k raster my enable yexp s .dma) 0
+  left-rest =
+      loaded-keeps raster my enable (spritesSecond k raster my enable yexp s)
       ∙ second-rest raster my enable yexp (spritesFirst k raster my enable yexp s)
       ∙ ap (λ (x : Rest). restOf (x .clear) (spritesFirst k raster my enable yexp s .dma) (x .vmatch)) (first-rest raster my enable yexp (spritesStepped k raster my enable yexp s))
       ∙ ap (λ (x : ℕ). restOf x (spritesFirst k raster my enable yexp s .dma) 0) (step-clear before)
@@ -536,100 +513,116 @@ module _ (k : Kind) (xs : List Slot) (wx : Within xs) (s : Sprites) (raster : �
   shown-small : bitAnd (bitOr (s .display) meets) dma < 256
   shown-small = and-lt 8 (bitOr (s .display) meets) dma (or-lt 8 (s .display) meets (h .display) meets-small) dma-small
 
-  pub record Counts (slots third : Bool) : Type 0 where
-    pub same : settledOf s B raster my enable yexp slots third ≡ whole
-    pub mask : whole .dma ≡ dma
+  pub record Counts : Type 0 where
+    pub same : settledOf s B raster my enable yexp ≡ left
+    pub mask : left .dma ≡ dma
     pub first : spritesFirst k raster my enable yexp s .dma ≡ dma
 
-  module _ {slots third : Bool} (f0 : Facts 0 (B .b0) slots 3) (f1 : Facts 1 (B .b1) slots 3) (f2 : Facts 2 (B .b2) slots 3) (f3 : Facts 3 (B .b3) third 1)
-      (f4 : Facts 4 (B .b4) false 0) (f5 : Facts 5 (B .b5) false 0) (f6 : Facts 6 (B .b6) false 0) (f7 : Facts 7 (B .b7) false 0) where
-    each-same : whole .each ≡ settledOf s B raster my enable yexp slots third .each
+  module _ (f0 : Facts 0 (B .b0)) (f1 : Facts 1 (B .b1)) (f2 : Facts 2 (B .b2)) (f3 : Facts 3 (B .b3)) (f4 : Facts 4 (B .b4)) (f5 : Facts 5 (B .b5)) (f6 : Facts 6 (B .b6)) (f7 : Facts 7 (B .b7)) where
+    each-same : left .each ≡ settledOf s B raster my enable yexp .each
     unfolding spriteAt
-    each-same = eight-list (whole .each) (line-fine .eight) ∙ rw (f0 .sprite, f1 .sprite, f2 .sprite, f3 .sprite, f4 .sprite, f5 .sprite, f6 .sprite, f7 .sprite)
+    each-same = eight-list (left .each) (loaded-fine .eight) ∙ rw (f0 .sprite, f1 .sprite, f2 .sprite, f3 .sprite, f4 .sprite, f5 .sprite, f6 .sprite, f7 .sprite)
 
-    dma-same : whole .dma ≡ dma
+    dma-same : left .dma ≡ dma
     dma-same =
-        by-bits (whole .dma) dma (line-fine .dma) dma-small
-        (by-eight (λ n. hasBit (whole .dma) n ≡ hasBit dma n) (f0 .on) (f1 .on) (f2 .on) (f3 .on) (f4 .on) (f5 .on) (f6 .on) (f7 .on))
+        by-bits (left .dma) dma (loaded-fine .dma) dma-small
+        (by-eight (λ n. hasBit (left .dma) n ≡ hasBit dma n) (f0 .on) (f1 .on) (f2 .on) (f3 .on) (f4 .on) (f5 .on) (f6 .on) (f7 .on))
 
     first-same : spritesFirst k raster my enable yexp s .dma ≡ dma
     first-same =
         by-bits (spritesFirst k raster my enable yexp s .dma) dma (first-fine .dma) dma-small
         (by-eight (λ n. hasBit (spritesFirst k raster my enable yexp s .dma) n ≡ hasBit dma n) (f0 .first) (f1 .first) (f2 .first) (f3 .first) (f4 .first) (f5 .first) (f6 .first) (f7 .first))
 
-    flip-same : whole .flip ≡ bitAnd (bitXor (s .flip) yexp) (255 - bitAnd going yexp)
+    flip-same : left .flip ≡ bitAnd (bitXor (s .flip) yexp) (255 - bitAnd going yexp)
     flip-same =
-        by-bits (whole .flip) (bitAnd (bitXor (s .flip) yexp) (255 - bitAnd going yexp)) (line-fine .flip) flip-small
-        (by-eight (λ n. hasBit (whole .flip) n ≡ hasBit (bitAnd (bitXor (s .flip) yexp) (255 - bitAnd going yexp)) n) (f0 .flip) (f1 .flip) (f2 .flip) (f3 .flip) (f4 .flip) (f5 .flip) (f6 .flip) (f7 .flip))
+        by-bits (left .flip) (bitAnd (bitXor (s .flip) yexp) (255 - bitAnd going yexp)) (loaded-fine .flip) flip-small
+        (by-eight (λ n. hasBit (left .flip) n ≡ hasBit (bitAnd (bitXor (s .flip) yexp) (255 - bitAnd going yexp)) n) (f0 .flip) (f1 .flip) (f2 .flip) (f3 .flip) (f4 .flip) (f5 .flip) (f6 .flip) (f7 .flip))
 
-    shown-same-all : whole .display ≡ bitAnd (bitOr (s .display) meets) dma
+    shown-same-all : left .display ≡ bitAnd (bitOr (s .display) meets) dma
     shown-same-all =
-        by-bits (whole .display) (bitAnd (bitOr (s .display) meets) dma) (line-fine .display) shown-small
-        (by-eight (λ n. hasBit (whole .display) n ≡ hasBit (bitAnd (bitOr (s .display) meets) dma) n) (f0 .shown) (f1 .shown) (f2 .shown) (f3 .shown) (f4 .shown) (f5 .shown) (f6 .shown) (f7 .shown))
+        by-bits (left .display) (bitAnd (bitOr (s .display) meets) dma) (loaded-fine .display) shown-small
+        (by-eight (λ n. hasBit (left .display) n ≡ hasBit (bitAnd (bitOr (s .display) meets) dma) n) (f0 .shown) (f1 .shown) (f2 .shown) (f3 .shown) (f4 .shown) (f5 .shown) (f6 .shown) (f7 .shown))
 
-    settled-line : settledOf s B raster my enable yexp slots third ≡ whole
-    settled-line =
-        alike (sym each-same) (sym flip-same) (sym (ap (λ (x : Rest). x .clear) line-rest)) (sym dma-same)
-        (sym (ap (λ (x : Rest). x .prev) line-rest ∙ first-same)) (sym shown-same-all) (sym (ap (λ (x : Rest). x .vmatch) line-rest))
+    settled-same : settledOf s B raster my enable yexp ≡ left
+    settled-same =
+        alike (sym each-same) (sym flip-same) (sym (ap (λ (x : Rest). x .clear) left-rest)) (sym dma-same)
+        (sym (ap (λ (x : Rest). x .prev) left-rest ∙ first-same)) (sym shown-same-all) (sym (ap (λ (x : Rest). x .vmatch) left-rest))
 
-    pub all : Counts slots third
-    all = record { same = settled-line; mask = dma-same; first = first-same }
+    pub all : Counts
+    all = record { same = settled-same; mask = dma-same; first = first-same }
 
 abbrev alikeMasks : ℕ → ℕ → ℕ → Masks
 alikeMasks b f a = record { before = b; first = f; after = a }
 
--- what the slots of a list do to each sprite
-record Lates (xs : List Slot) (slots third : Bool) : Type 0 where
-  m0 : (v : View) → slotsV xs 0 v ≡ movedView slots 3 v
-  m1 : (v : View) → slotsV xs 1 v ≡ movedView slots 3 v
-  m2 : (v : View) → slotsV xs 2 v ≡ movedView slots 3 v
-  m3 : (v : View) → slotsV xs 3 v ≡ movedView third 1 v
-  m4 : (v : View) → slotsV xs 4 v ≡ movedView false 0 v
-  m5 : (v : View) → slotsV xs 5 v ≡ movedView false 0 v
-  m6 : (v : View) → slotsV xs 6 v ≡ movedView false 0 v
-  m7 : (v : View) → slotsV xs 7 v ≡ movedView false 0 v
-
-lates : (k : Kind) → Lates (lateSlots k) true (late3 k)
-lates the6569 = record { m0 = twice-moved 0; m1 = twice-moved 1; m2 = twice-moved 2; m3 = not-moved 3 1; m4 = not-moved 4 0; m5 = not-moved 5 0; m6 = not-moved 6 0; m7 = not-moved 7 0 }
-lates the6567R8 = record { m0 = twice-moved 0; m1 = twice-moved 1; m2 = twice-moved 2; m3 = once-moved 1 3; m4 = not-moved 4 0; m5 = not-moved 5 0; m6 = not-moved 6 0; m7 = not-moved 7 0 }
-
-no-lates : Lates [] false false
-no-lates = record { m0 = not-moved 0 3; m1 = not-moved 1 3; m2 = not-moved 2 3; m3 = not-moved 3 1; m4 = not-moved 4 0; m5 = not-moved 5 0; m6 = not-moved 6 0; m7 = not-moved 7 0 }
-
 -- on the 6569 sprite 3 has both its slots where a line begins; on the 6567R8 it has its pointer slot where one ends
 module _ (s : Sprites) (raster : ℕ) (my : List ℕ) (enable yexp : ℕ) (h : Sound s) (he : enable < 256) (hy : yexp < 256) where
-  counts : (k : Kind) (xs : List Slot) (wx : Within xs) (slots third : Bool) → Lates xs slots third → Counts k xs wx s raster my enable yexp h he hy slots third
-  counts the6569 xs wx slots third m =
-      all the6569 xs wx s raster my enable yexp h he hy
-      (facts the6569 xs wx s raster my enable yexp h he hy 0 (basesOf the6569 s .b0) (omega arith) false 0 refl refl refl (not-moved 0 0) slots 3 (m .m0))
-      (facts the6569 xs wx s raster my enable yexp h he hy 1 (basesOf the6569 s .b1) (omega arith) false 0 refl refl refl (not-moved 1 0) slots 3 (m .m1))
-      (facts the6569 xs wx s raster my enable yexp h he hy 2 (basesOf the6569 s .b2) (omega arith) false 0 refl refl refl (not-moved 2 0) slots 3 (m .m2))
-      (facts the6569 xs wx s raster my enable yexp h he hy 3 (basesOf the6569 s .b3) (omega arith) true 3 refl refl refl (twice-moved 3) third 1 (m .m3))
-      (facts the6569 xs wx s raster my enable yexp h he hy 4 (basesOf the6569 s .b4) (omega arith) true 3 refl refl refl (twice-moved 4) false 0 (m .m4))
-      (facts the6569 xs wx s raster my enable yexp h he hy 5 (basesOf the6569 s .b5) (omega arith) true 3 refl refl refl (twice-moved 5) false 0 (m .m5))
-      (facts the6569 xs wx s raster my enable yexp h he hy 6 (basesOf the6569 s .b6) (omega arith) true 3 refl refl refl (twice-moved 6) false 0 (m .m6))
-      (facts the6569 xs wx s raster my enable yexp h he hy 7 (basesOf the6569 s .b7) (omega arith) true 3 refl refl refl (twice-moved 7) false 0 (m .m7))
-  counts the6567R8 xs wx slots third m =
-      all the6567R8 xs wx s raster my enable yexp h he hy
-      (facts the6567R8 xs wx s raster my enable yexp h he hy 0 (basesOf the6567R8 s .b0) (omega arith) false 0 refl refl refl (not-moved 0 0) slots 3 (m .m0))
-      (facts the6567R8 xs wx s raster my enable yexp h he hy 1 (basesOf the6567R8 s .b1) (omega arith) false 0 refl refl refl (not-moved 1 0) slots 3 (m .m1))
-      (facts the6567R8 xs wx s raster my enable yexp h he hy 2 (basesOf the6567R8 s .b2) (omega arith) false 0 refl refl refl (not-moved 2 0) slots 3 (m .m2))
-      (facts the6567R8 xs wx s raster my enable yexp h he hy 3 (basesOf the6567R8 s .b3) (omega arith) true 2 refl refl refl (once-moved 2 3) third 1 (m .m3))
-      (facts the6567R8 xs wx s raster my enable yexp h he hy 4 (basesOf the6567R8 s .b4) (omega arith) true 3 refl refl refl (twice-moved 4) false 0 (m .m4))
-      (facts the6567R8 xs wx s raster my enable yexp h he hy 5 (basesOf the6567R8 s .b5) (omega arith) true 3 refl refl refl (twice-moved 5) false 0 (m .m5))
-      (facts the6567R8 xs wx s raster my enable yexp h he hy 6 (basesOf the6567R8 s .b6) (omega arith) true 3 refl refl refl (twice-moved 6) false 0 (m .m6))
-      (facts the6567R8 xs wx s raster my enable yexp h he hy 7 (basesOf the6567R8 s .b7) (omega arith) true 3 refl refl refl (twice-moved 7) false 0 (m .m7))
+  counts : (k : Kind) → Counts k s raster my enable yexp h he hy
+  counts the6569 =
+      all the6569 s raster my enable yexp h he hy
+      (facts the6569 s raster my enable yexp h he hy 0 (basesOf the6569 s .b0) (omega arith) false 0 refl refl refl (not-moved 0 0))
+      (facts the6569 s raster my enable yexp h he hy 1 (basesOf the6569 s .b1) (omega arith) false 0 refl refl refl (not-moved 1 0))
+      (facts the6569 s raster my enable yexp h he hy 2 (basesOf the6569 s .b2) (omega arith) false 0 refl refl refl (not-moved 2 0))
+      (facts the6569 s raster my enable yexp h he hy 3 (basesOf the6569 s .b3) (omega arith) true 3 refl refl refl (twice-moved 3))
+      (facts the6569 s raster my enable yexp h he hy 4 (basesOf the6569 s .b4) (omega arith) true 3 refl refl refl (twice-moved 4))
+      (facts the6569 s raster my enable yexp h he hy 5 (basesOf the6569 s .b5) (omega arith) true 3 refl refl refl (twice-moved 5))
+      (facts the6569 s raster my enable yexp h he hy 6 (basesOf the6569 s .b6) (omega arith) true 3 refl refl refl (twice-moved 6))
+      (facts the6569 s raster my enable yexp h he hy 7 (basesOf the6569 s .b7) (omega arith) true 3 refl refl refl (twice-moved 7))
+  counts the6567R8 =
+      all the6567R8 s raster my enable yexp h he hy
+      (facts the6567R8 s raster my enable yexp h he hy 0 (basesOf the6567R8 s .b0) (omega arith) false 0 refl refl refl (not-moved 0 0))
+      (facts the6567R8 s raster my enable yexp h he hy 1 (basesOf the6567R8 s .b1) (omega arith) false 0 refl refl refl (not-moved 1 0))
+      (facts the6567R8 s raster my enable yexp h he hy 2 (basesOf the6567R8 s .b2) (omega arith) false 0 refl refl refl (not-moved 2 0))
+      (facts the6567R8 s raster my enable yexp h he hy 3 (basesOf the6567R8 s .b3) (omega arith) true 2 refl refl refl (once-moved 2 3))
+      (facts the6567R8 s raster my enable yexp h he hy 4 (basesOf the6567R8 s .b4) (omega arith) true 3 refl refl refl (twice-moved 4))
+      (facts the6567R8 s raster my enable yexp h he hy 5 (basesOf the6567R8 s .b5) (omega arith) true 3 refl refl refl (twice-moved 5))
+      (facts the6567R8 s raster my enable yexp h he hy 6 (basesOf the6567R8 s .b6) (omega arith) true 3 refl refl refl (twice-moved 6))
+      (facts the6567R8 s raster my enable yexp h he hy 7 (basesOf the6567R8 s .b7) (omega arith) true 3 refl refl refl (twice-moved 7))
 
-  pub counters : (k : Kind) → settledOf s (basesOf k s) raster my enable yexp true (late3 k) ≡ spritesLine k raster my enable yexp s
-  unfolding spritesLine
-  counters k = counts k (lateSlots k) (late-within k) true (late3 k) (lates k) .same
-
-  pub loads-all : (k : Kind) → settledOf s (basesOf k s) raster my enable yexp false false ≡ spritesLoaded k raster my enable yexp s
-  loads-all k = counts k [] tt false false no-lates .same
+  pub loads-all : (k : Kind) → settledOf s (basesOf k s) raster my enable yexp ≡ spritesLoaded k raster my enable yexp s
+  loads-all k = counts k .same
 
   -- the first comparison's mask is the second's, which the load of MC leaves
   pub masks-same : (k : Kind) → masksOf k raster my enable yexp s ≡ record { before = s .dma; first = spritesLoaded k raster my enable yexp s .dma; after = spritesLoaded k raster my enable yexp s .dma }
   masks-same k =
-      let m = counts k [] tt false false no-lates in
+      let m = counts k in
       ap (λ (f : ℕ). alikeMasks (s .dma) f (spritesSecond k raster my enable yexp s .dma)) (m .first ∙ sym (m .mask))
       ∙ ap (λ (a : ℕ). alikeMasks (s .dma) (spritesLoaded k raster my enable yexp s .dma) a) (sym (loaded-dma raster my enable (spritesSecond k raster my enable yexp s)))
+
+-- the slots change nothing but the sprites themselves
+fetch-keeps : (k bytes : ℕ) (s : Sprites) → each≔ [] (fetched k bytes s) ≡ each≔ [] s
+unfolding fetched
+fetch-keeps k bytes s = unless (each≔ []) (hasBit (s .dma) k) (spriteAt≔ k (sprite-mc≔ ((spriteAt s k .mc + bytes) % 64) (spriteAt s k)) s) s refl
+
+slot-keeps : (x : Slot) (s : Sprites) → each≔ [] (slotMoves x s) ≡ each≔ [] s
+slot-keeps (pointing n) s = fetch-keeps n 1 s
+slot-keeps (fetching n) s = fetch-keeps n 2 s
+
+slots-keep : (xs : List Slot) (s : Sprites) → each≔ [] (slotsMove xs s) ≡ each≔ [] s
+slots-keep [] s = refl
+slots-keep (x ∷ more) s = slots-keep more (slotMoves x s) ∙ slot-keeps x s
+
+-- the sprites that have some of them
+firsts : {a b c d a' b' c' d' : View} (more : List Sprite) → a ≡ a' → b ≡ b' → c ≡ c' → d ≡ d' → (a .sprite ∷ b .sprite ∷ c .sprite ∷ d .sprite ∷ more) ≡ (a' .sprite ∷ b' .sprite ∷ c' .sprite ∷ d' .sprite ∷ more)
+firsts more pa pb pc pd = rw (pa, pb, pc, pd)
+
+-- after the slots that a line ends with
+module _ (s : Sprites) (h : Sound s) where
+  abbrev through : List Slot → ℕ → Sprite
+  through xs n = slotsV xs n (viewOf s n) .sprite
+
+  slots-at : (xs : List Slot) (n : ℕ) → Within xs → n < 8 → spriteAt (slotsMove xs s) n ≡ through xs n
+  slots-at xs n w c = ap (λ (v : View). v .sprite) (slots-view xs n s w c h)
+
+  slots-each : (xs : List Slot) → Within xs
+      → slotsMove xs s .each ≡ (through xs 0 ∷ through xs 1 ∷ through xs 2 ∷ through xs 3 ∷ through xs 4 ∷ through xs 5 ∷ through xs 6 ∷ through xs 7 ∷ [])
+  unfolding spriteAt
+  slots-each xs w =
+      eight-list (slotsMove xs s .each) (slots-sound xs s w h .eight)
+      ∙ rw (slots-at xs 0 w (omega arith), slots-at xs 1 w (omega arith), slots-at xs 2 w (omega arith), slots-at xs 3 w (omega arith), slots-at xs 4 w (omega arith), slots-at xs 5 w (omega arith), slots-at xs 6 w (omega arith), slots-at xs 7 w (omega arith))
+
+  late-each : (k : Kind) → slotsMove (lateSlots k) s .each ≡ incrementedOf (late3 k) s .each
+  late-each the6569 = slots-each (lateSlots the6569) (late-within the6569) ∙ firsts _ (twice-moved 0 (viewOf s 0)) (twice-moved 1 (viewOf s 1)) (twice-moved 2 (viewOf s 2)) (not-moved 3 1 (viewOf s 3))
+  late-each the6567R8 = slots-each (lateSlots the6567R8) (late-within the6567R8) ∙ firsts _ (twice-moved 0 (viewOf s 0)) (twice-moved 1 (viewOf s 1)) (twice-moved 2 (viewOf s 2)) (once-moved 1 3 (viewOf s 3))
+
+  pub late-slots : (k : Kind) → incrementedOf (late3 k) s ≡ slotsMove (lateSlots k) s
+  late-slots k = sym (ap (each≔ (slotsMove (lateSlots k) s .each)) (slots-keep (lateSlots k) s) ∙ ap (λ (x : List Sprite). each≔ x s) (late-each k))

@@ -27,7 +27,7 @@ use Rattle.world.specs.World.{World}
 use Rattle.lines.specs.Begin.{kindIn, lineOf, wrapsOf, rasterOf, latchLine, frameLine, irqLine, badOf, risesOf}
 use Rattle.lines.specs.Bus.{Masks, masksOf, busLine}
 use Rattle.lines.specs.Rows.{rowsLine, showsOf, baseOf, rcOf}
-use Rattle.lines.specs.Sprites.{spritesLoaded}
+use Rattle.lines.specs.Sprites.{spritesLoaded, spritesLine}
 use Rattle.lines.specs.Side.{masksIn, lineSide}
 use Rattle.lines.specs.Columns.{matrixLine, columnsLine}
 use Rattle.lines.specs.Border.{hiddenIn}
@@ -42,11 +42,11 @@ use Rattle.engine.specs.declared.Counted.{Counted}
 use Rattle.engine.specs.declared.Turned.{Turned}
 use Rattle.engine.specs.Begin.{begunOf, interruptOf, framedOf}
 use Rattle.engine.specs.declared.Bases.{Bases}
-use Rattle.engine.specs.Counters.{Sound, basesOf, settledOf, countedOf}
+use Rattle.engine.specs.Counters.{Sound, basesOf, settledOf, incrementedOf, countedOf}
 use Rattle.engine.specs.Parts.{turnedOf, twoMasks, rowMerged, penLine, fetchBy, slotsBy}
 use Rattle.engine.specs.World.{Takes}
 use Rattle.engine.proofs.Columned.{late3-is}
-use Rattle.engine.proofs.Counters.{counters, loads-all}
+use Rattle.engine.proofs.Counters.{loaded-fine, loads-all, late-slots}
 
 -- a clock that takes the line has room for its columns
 pub clocks-of : (z : ℤ) (k : Kind) (forced : ℤ) → Takes (lastCycle k) z → inRange forced → Clocks z forced
@@ -101,12 +101,14 @@ turn-glue g s begun irq framed counted bus rows cycle masks =
 
 pub count-glue : (s : Sprites) (kind raster : ℕ) (my : List ℕ) (enable yexp : ℕ) {b : Bases} {l a : Sprites} → Sound s → enable < 256 → yexp < 256
     → b ≡ basesOf (kindOf kind) s
-    → l ≡ settledOf s b raster my enable yexp false false
-    → a ≡ settledOf s b raster my enable yexp true (eqb kind 1)
+    → l ≡ settledOf s b raster my enable yexp
+    → a ≡ incrementedOf (eqb kind 1) l
     → _≡_ {A = Counted} (record { loaded = l; after = a }) (countedOf (kindOf kind) raster my enable yexp s)
+unfolding spritesLine
 count-glue s kind raster my enable yexp h he hy b l a =
-    let ll = l ∙ ap (λ (x : Bases). settledOf s x raster my enable yexp false false) b ∙ loads-all s raster my enable yexp h he hy (kindOf kind) in
-    let aa = a ∙ ap (λ (x : Bases). settledOf s x raster my enable yexp true (eqb kind 1)) b ∙ ap (λ (x : Bool). settledOf s (basesOf (kindOf kind) s) raster my enable yexp true x) (late3-is kind) ∙ counters s raster my enable yexp h he hy (kindOf kind) in
+    let k = kindOf kind in
+    let ll = l ∙ ap (λ (x : Bases). settledOf s x raster my enable yexp) b ∙ loads-all s raster my enable yexp h he hy k in
+    let aa = (rw (late3-is kind, ll) at a) ∙ late-slots (spritesLoaded k raster my enable yexp s) (loaded-fine k s raster my enable yexp h he hy) k in
     rw (ll, aa)
 
 pub show-glue : (h : Host) (g : Registers) (rows : Rows) (b : Begun) (f : Framed) (clock : ℤ) (p : Pen) (matrix : List ℕ) {base rc mode old ch carry : ℕ} {mm : List ℕ}

@@ -11,6 +11,7 @@ use Rattle.laws.specs.Pick.{pick}
 use Rattle.schedule.specs.Kind.{Kind, the6569, the6567R8}
 use Rattle.sprites.specs.declared.Sprite.{Sprite}
 use Rattle.sprites.specs.declared.Sprites.{Sprites}
+use Rattle.sprites.specs.Set.{sprite-mc≔, each≔}
 use Rattle.sprites.specs.Sprites.{spriteAt, nextBase}
 use Rattle.lines.specs.Sprites.{spritesLoaded, spritesLine}
 use Rattle.engine.specs.declared.Bases.{Bases}
@@ -65,14 +66,9 @@ endingOf b = maskOf (eqb (b .b0) 63) (eqb (b .b1) 63) (eqb (b .b2) 63) (eqb (b .
 abbrev pub equalOf : List ℕ → ℕ → ℕ
 equalOf my y = maskOf (eqb (getD my 0 0) y) (eqb (getD my 1 0) y) (eqb (getD my 2 0) y) (eqb (getD my 3 0) y) (eqb (getD my 4 0) y) (eqb (getD my 5 0) y) (eqb (getD my 6 0) y) (eqb (getD my 7 0) y)
 
--- a sprite after the comparisons, the load of MC and its slots of the line's end
-abbrev pub settledBy : Sprites → ℕ → ℕ → ℕ → ℕ → Bool → ℕ → Sprite
-settledBy s k starts dma base late bytes =
-    record {
-      number = spriteAt s k .number;
-      mc = movedBy (hasBit dma k && late) bytes (pick (hasBit starts k) 0 base);
-      base = pick (hasBit starts k) 0 base;
-    }
+-- a sprite after the comparisons and the load of MC
+abbrev pub settledBy : Sprites → ℕ → ℕ → ℕ → Sprite
+settledBy s k starts base = record { number = spriteAt s k .number; mc = pick (hasBit starts k) 0 base; base = pick (hasBit starts k) 0 base }
 
 module _ (s : Sprites) (b : Bases) (raster : ℕ) (my : List ℕ) (enable yexp : ℕ) where
   abbrev pub meetsOf : ℕ
@@ -87,19 +83,19 @@ module _ (s : Sprites) (b : Bases) (raster : ℕ) (my : List ℕ) (enable yexp :
   abbrev pub dmaOf : ℕ
   dmaOf = bitOr staysOf meetsOf
 
-  -- with the slots of sprites 0 to 2 and sprite 3's pointer slot, or without them: then it is what the load of MC left
-  abbrev pub settledOf : Bool → Bool → Sprites
-  settledOf slots third =
+  -- what the load of MC leaves
+  abbrev pub settledOf : Sprites
+  settledOf =
       record {
         each =
-            settledBy s 0 startsOf dmaOf (b .b0) slots 3
-            ∷ settledBy s 1 startsOf dmaOf (b .b1) slots 3
-            ∷ settledBy s 2 startsOf dmaOf (b .b2) slots 3
-            ∷ settledBy s 3 startsOf dmaOf (b .b3) third 1
-            ∷ settledBy s 4 startsOf dmaOf (b .b4) false 0
-            ∷ settledBy s 5 startsOf dmaOf (b .b5) false 0
-            ∷ settledBy s 6 startsOf dmaOf (b .b6) false 0
-            ∷ settledBy s 7 startsOf dmaOf (b .b7) false 0
+            settledBy s 0 startsOf (b .b0)
+            ∷ settledBy s 1 startsOf (b .b1)
+            ∷ settledBy s 2 startsOf (b .b2)
+            ∷ settledBy s 3 startsOf (b .b3)
+            ∷ settledBy s 4 startsOf (b .b4)
+            ∷ settledBy s 5 startsOf (b .b5)
+            ∷ settledBy s 6 startsOf (b .b6)
+            ∷ settledBy s 7 startsOf (b .b7)
             ∷ [];
         flip = bitAnd (bitXor (s .flip) yexp) (255 - bitAnd startsOf yexp);
         clear = 0;
@@ -108,6 +104,25 @@ module _ (s : Sprites) (b : Bases) (raster : ℕ) (my : List ℕ) (enable yexp :
         display = bitAnd (bitOr (s .display) meetsOf) dmaOf;
         vmatch = 0;
       }
+
+-- a sprite after the bytes of its slots at the line's end
+abbrev pub incrementedBy : Sprites → ℕ → Bool → ℕ → Sprite
+incrementedBy s k late bytes = sprite-mc≔ (movedBy (hasBit (s .dma) k && late) bytes (spriteAt s k .mc)) (spriteAt s k)
+
+-- after the slots of sprites 0 to 2, and sprite 3's pointer slot where it is there
+abbrev pub incrementedOf : Bool → Sprites → Sprites
+incrementedOf third s =
+    each≔
+    (incrementedBy s 0 true 3
+    ∷ incrementedBy s 1 true 3
+    ∷ incrementedBy s 2 true 3
+    ∷ incrementedBy s 3 third 1
+    ∷ spriteAt s 4
+    ∷ spriteAt s 5
+    ∷ spriteAt s 6
+    ∷ spriteAt s 7
+    ∷ [])
+    s
 
 -- what a line leaves of the sprites, and before it what the load of MC leaves
 abbrev pub countedOf : Kind → ℕ → List ℕ → ℕ → ℕ → Sprites → Counted

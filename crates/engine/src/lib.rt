@@ -15,7 +15,7 @@ ghost use Rattle.lines.specs.Side.{masksIn};
 ghost use Rattle.lines.specs.Whole.{lineWorld};
 ghost use Rattle.fetches.specs.Fetches.{latches};
 ghost use Rattle.sprites.specs.Sprites.{crunched, nextBase};
-ghost use Rattle.engine.specs.Counters.{Sound, movedBy, baseBy, early3, basesOf, maskOf, endingOf, equalOf, settledBy, settledOf, countedOf};
+ghost use Rattle.engine.specs.Counters.{Sound, movedBy, baseBy, early3, basesOf, maskOf, endingOf, equalOf, settledBy, settledOf, incrementedBy, incrementedOf, countedOf};
 ghost use Rattle.lines.specs.Bus.{masksOf};
 ghost use Rattle.lines.specs.Sprites.{spritesLoaded};
 ghost use Rattle.lines.specs.Rows.{rowsLine, showsOf, baseOf, rcOf};
@@ -271,35 +271,24 @@ fn equal(my: [u8; 8], y: u8) -> u8
     )
 }
 
-// A sprite after the comparisons, the load of MC and its slots of the line's end.
-fn settled(s: Sprites, k: usize, starts: u8, dma: u8, base: u8, late: bool, bytes: u8) -> Sprite
-    requires { ⌜ (k < 8) × (bytes < 4) ⌝ }
-    ensures { λ r. ⌜ r ≡ settledBy s k starts dma base late bytes ⌝ }
+// A sprite after the comparisons and the load of MC.
+fn settled(s: Sprites, k: usize, starts: u8, base: u8) -> Sprite
+    requires { ⌜ k < 8 ⌝ }
+    ensures { λ r. ⌜ r ≡ settledBy s k starts base ⌝ }
 {
     let p = s.at(k);
-    let on = laws::has_bit(dma, k);
     let fresh = laws::has_bit(starts, k);
     let next = laws::pick8(fresh, 0, base);
-    let mc = moved(on & late, next, bytes);
     Sprite {
         number: p.number,
-        mc: mc,
+        mc: next,
         base: next,
     }
 }
 
-// The sprites by the bases that the step of MCBASE left: after a line, or before the slots of its end.
-fn settle(
-    s: Sprites,
-    b: Bases,
-    slots: bool,
-    third: bool,
-    raster: u16,
-    my: [u8; 8],
-    enable: u8,
-    yexp: u8,
-) -> Sprites
-    ensures { λ r. ⌜ r ≡ settledOf s b raster my enable yexp slots third ⌝ }
+// What the load of MC leaves of the sprites, by the bases that the step of MCBASE left.
+fn settle(s: Sprites, b: Bases, raster: u16, my: [u8; 8], enable: u8, yexp: u8) -> Sprites
+    ensures { λ r. ⌜ r ≡ settledOf s b raster my enable yexp ⌝ }
 {
     let ends = ending(b);
     let same = equal(my, (raster % 256) as u8);
@@ -307,14 +296,14 @@ fn settle(
     let stays = s.dma & !ends;
     let starts = meets & !stays;
     let dma = stays | meets;
-    let e0 = settled(s, 0, starts, dma, b.b0, slots, 3);
-    let e1 = settled(s, 1, starts, dma, b.b1, slots, 3);
-    let e2 = settled(s, 2, starts, dma, b.b2, slots, 3);
-    let e3 = settled(s, 3, starts, dma, b.b3, third, 1);
-    let e4 = settled(s, 4, starts, dma, b.b4, false, 0);
-    let e5 = settled(s, 5, starts, dma, b.b5, false, 0);
-    let e6 = settled(s, 6, starts, dma, b.b6, false, 0);
-    let e7 = settled(s, 7, starts, dma, b.b7, false, 0);
+    let e0 = settled(s, 0, starts, b.b0);
+    let e1 = settled(s, 1, starts, b.b1);
+    let e2 = settled(s, 2, starts, b.b2);
+    let e3 = settled(s, 3, starts, b.b3);
+    let e4 = settled(s, 4, starts, b.b4);
+    let e5 = settled(s, 5, starts, b.b5);
+    let e6 = settled(s, 6, starts, b.b6);
+    let e7 = settled(s, 7, starts, b.b7);
     Sprites {
         each: [e0, e1, e2, e3, e4, e5, e6, e7],
         flip: (s.flip ^ yexp) & !(starts & yexp),
@@ -323,6 +312,40 @@ fn settle(
         prev: dma,
         display: (s.display | meets) & dma,
         vmatch: 0,
+    }
+}
+
+// A sprite after the bytes of its slots at the line's end, if there are any.
+fn incremented(s: Sprites, k: usize, late: bool, bytes: u8) -> Sprite
+    requires { ⌜ (k < 8) × (bytes < 4) ⌝ }
+    ensures { λ r. ⌜ r ≡ incrementedBy s k late bytes ⌝ }
+{
+    let p = s.at(k);
+    let on = laws::has_bit(s.dma, k);
+    let mc = moved(on & late, p.mc, bytes);
+    Sprite {
+        number: p.number,
+        mc: mc,
+        base: p.base,
+    }
+}
+
+// What the slots of the line's end leave: sprites 0 to 2 have both theirs there, sprite 3 may have its pointer slot there.
+fn increment(s: Sprites, third: bool) -> Sprites
+    ensures { λ r. ⌜ r ≡ incrementedOf third s ⌝ }
+{
+    let e0 = incremented(s, 0, true, 3);
+    let e1 = incremented(s, 1, true, 3);
+    let e2 = incremented(s, 2, true, 3);
+    let e3 = incremented(s, 3, third, 1);
+    Sprites {
+        each: [e0, e1, e2, e3, s.each[4], s.each[5], s.each[6], s.each[7]],
+        flip: s.flip,
+        clear: s.clear,
+        dma: s.dma,
+        prev: s.prev,
+        display: s.display,
+        vmatch: s.vmatch,
     }
 }
 
@@ -337,8 +360,8 @@ fn count(s: Sprites, kind: u8, raster: u16, my: [u8; 8], enable: u8, yexp: u8) -
 {
     let b = stepped(s, kind);
     let third = kind == schedule::KIND_6567R8;
-    let loaded = settle(s, b, false, false, raster, my, enable, yexp);
-    let after = settle(s, b, true, third, raster, my, enable, yexp);
+    let loaded = settle(s, b, raster, my, enable, yexp);
+    let after = increment(loaded, third);
     Counted {
         loaded: loaded,
         after: after,

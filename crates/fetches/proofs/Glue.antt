@@ -1,42 +1,36 @@
 -- Each step's definition, from what each call of the code ensures. Assumes nothing.
-use Prim.Native.Nat.{ℕ, _+_, _%_}
+use Prim.Native.Nat.{ℕ, _+_, _<_}
 use mathlib.Core.Path.{_≡_, sym, ap, _∙_}
-use mathlib.Core.Bool.{Bool, true, false}
+use mathlib.Core.Bool.{Bool}
 use mathlib.Core.List.{List, map}
+use native.Mathlib.Omega.{arith}
+use borrow.Author.Tests.{eq-eqb, ne-eqb}
 use lib.Dec.{eqb}
-use lib.ListN.{length, length-set, length-map}
+use lib.ListN.{length, length-map}
 use Rattle.laws.specs.Bits.{hasBit}
 use Rattle.schedule.specs.Kind.{Kind, the6569, the6567R8, kindOf}
 use Rattle.sprites.specs.declared.Sprites.{Sprites}
-use Rattle.sprites.specs.Sprites.{spriteAt}
 use Rattle.access.specs.Slots.{pointersAfter, byteTwoAfter, dataAfter, wordsAfter}
 use Rattle.picture.specs.Pen.{Latches}
 use Rattle.lines.specs.Sprites.{earlySlots, lateSlots}
-use Rattle.lines.specs.Slots.{Fetch, slotsRead}
-use Rattle.fetches.specs.Fetches.{latches, fetchEarly, fetchLate, mcMoved, pointingRead, fetchingRead, pairRead, spriteRead, fourFive, sixSeven, fourToSeven, zeroOne, zeroToTwo}
-use Rattle.fetches.proofs.Order.{early-pal, early-ntsc, late-pal, late-ntsc}
+use Rattle.lines.specs.Slots.{slotsRead}
+use Rattle.fetches.specs.Fetches.{latches, fetchEarly, fetchLate, mcMoved, pointingRead, fetchingRead, pairRead, spriteRead, fourFive, sixSeven, fourToSeven, zeroOne, zeroToTwo, placeEarly, placeLate, thirdEarly, thirdLate}
+use Rattle.fetches.proofs.Order.{early-slots, late-slots}
 
 -- an array's length stands at the list of what its elements are made of
 pub unmapped : {X Y : Type 0} (f : X → Y) (l : List X) (n : ℕ) → length (map f l) ≡ n → length l ≡ n
 unmapped f l n e = sym (length-map l f) ∙ e
 
-pub eight-still : (p : List ℕ) (k ptrs : ℕ) (ram rom : List ℕ) (bank : ℕ) {p' : List ℕ} → p' ≡ pointersAfter p k ptrs ram rom bank → length p ≡ 8 → length p' ≡ 8
-unfolding pointersAfter
-eight-still p k ptrs ram rom bank e l = ap length e ∙ length-set p k _ ∙ l
-
 module _ (p b w : List ℕ) (k mc ptrs : ℕ) (ram rom : List ℕ) (bank : ℕ) where
-  pub paired : {on x y : Bool} {m : ℕ} {p' b' b'' w' : List ℕ} (dma low first second : ℕ)
-      → on ≡ hasBit dma k
-      → x ≡ hasBit low first
-      → y ≡ hasBit low second
+  pub paired : {m : ℕ} {p' b' b'' w' : List ℕ} (on x y : Bool)
       → m ≡ mcMoved on mc
       → p' ≡ pointersAfter p k ptrs ram rom bank
       → b' ≡ byteTwoAfter b k (eqb k 0) on mc x ptrs ram rom bank
       → b'' ≡ dataAfter p' b' k on m y ram rom bank
       → w' ≡ wordsAfter p' b' w k on m y ram rom bank
-      → latches p' b'' w' ≡ pairRead k (hasBit dma k) mc (hasBit low first) (hasBit low second) ptrs ram rom bank (latches p b w)
+      → latches p' b'' w' ≡ pairRead k on mc x y ptrs ram rom bank (latches p b w)
   unfolding pairRead pointingRead fetchingRead
-  paired dma low first second on x y m p' b' b'' w' = simp (b'', w', b', p', m, on, x, y)
+  paired on x y m p' b' b'' w' = simp (b'', w', b', p', m)
 
   pub fetching-alone : {on y : Bool} {b' w' : List ℕ} (dma low second : ℕ)
       → on ≡ hasBit dma k
@@ -53,6 +47,16 @@ module _ (p b w : List ℕ) (k mc ptrs : ℕ) (ram rom : List ℕ) (bank : ℕ) 
       → latches p' b' w ≡ pointingRead k on mc x ptrs ram rom bank (latches p b w)
   unfolding pointingRead
   pointing-alone on x p' b' = simp (p', b')
+
+-- the two ways of a pair, each for its constant, by the bits that chose it
+pub pair-by : {on v x y : Bool} (k dma mc low first second ptrs : ℕ) (ram rom : List ℕ) (bank : ℕ) (l : Latches) {r : Latches}
+    → on ≡ v
+    → on ≡ hasBit dma k
+    → x ≡ hasBit low first
+    → y ≡ hasBit low second
+    → r ≡ pairRead k v mc x y ptrs ram rom bank l
+    → r ≡ pairRead k (hasBit dma k) mc (hasBit low first) (hasBit low second) ptrs ram rom bank l
+pair-by k dma mc low first second ptrs ram rom bank l v on x y r = simp (r, ← v, on, x, y)
 
 module _ (s : Sprites) (low a ptrs : ℕ) (ram rom : List ℕ) (bank : ℕ) (l : Latches) {m r : Latches} where
   pub four-five : m ≡ spriteRead s low 4 2 a ptrs ram rom bank l → r ≡ spriteRead s low 5 (a + 1) (a + 2) ptrs ram rom bank m → r ≡ fourFive s low a ptrs ram rom bank l
@@ -75,34 +79,23 @@ module _ (s : Sprites) (low a ptrs : ℕ) (ram rom : List ℕ) (bank : ℕ) (l :
   unfolding zeroToTwo
   zero-to-two d e = e ∙ ap (spriteRead s low 2 (a + 3) (a + 4) ptrs ram rom bank) d
 
-module _ (s : Sprites) (eight : length (s .each) ≡ 8) (low ptrs : ℕ) (ram rom : List ℕ) (bank : ℕ) (l : Latches) where
-  pub early-69 : {m r : Latches} → m ≡ spriteRead s low 3 1 2 ptrs ram rom bank l → r ≡ fourToSeven s low 3 ptrs ram rom bank m → r ≡ slotsRead the6569 (fetchEarly low ptrs ram rom bank) (earlySlots the6569) s l
-  early-69 d e = e ∙ ap (fourToSeven s low 3 ptrs ram rom bank) d ∙ early-pal s eight low ptrs ram rom bank l
+module _ (s : Sprites) (eight : length (s .each) ≡ 8) (k : Kind) (low ptrs : ℕ) (ram rom : List ℕ) (bank : ℕ) (l : Latches) {a : ℕ} {m r : Latches} where
+  pub early-whole : a ≡ placeEarly k → m ≡ thirdEarly s low k ptrs ram rom bank l → r ≡ fourToSeven s low a ptrs ram rom bank m → r ≡ slotsRead k (fetchEarly low ptrs ram rom bank) (earlySlots k) s l
+  early-whole p d e = e ∙ rw (p, d) (early-slots s eight low ptrs ram rom bank l k)
 
-  pub early-67 : {m r : Latches} → m ≡ fetchingRead 3 (hasBit (s .dma) 3) (spriteAt s 3 .mc) (hasBit low 1) ram rom bank l → r ≡ fourToSeven s low 2 ptrs ram rom bank m → r ≡ slotsRead the6567R8 (fetchEarly low ptrs ram rom bank) (earlySlots the6567R8) s l
-  early-67 d e = e ∙ ap (fourToSeven s low 2 ptrs ram rom bank) d ∙ early-ntsc s eight low ptrs ram rom bank l
+  pub late-whole : a ≡ placeLate k → m ≡ zeroToTwo s low a ptrs ram rom bank l → r ≡ thirdLate s low k ptrs ram rom bank m → r ≡ slotsRead k (fetchLate low ptrs ram rom bank) (lateSlots k) s l
+  late-whole p d e = e ∙ rw (d, p) (late-slots s eight low ptrs ram rom bank l k)
 
-  pub late-69 : {r : Latches} → r ≡ zeroToTwo s low 4 ptrs ram rom bank l → r ≡ slotsRead the6569 (fetchLate low ptrs ram rom bank) (lateSlots the6569) s l
-  late-69 e = e ∙ late-pal s eight low ptrs ram rom bank l
-
-  pub late-67 : {p b w p' b' : List ℕ}
-      → latches p b w ≡ zeroToTwo s low 5 ptrs ram rom bank l
-      → p' ≡ pointersAfter p 3 ptrs ram rom bank
-      → b' ≡ byteTwoAfter b 3 false (hasBit (s .dma) 3) (spriteAt s 3 .mc) (hasBit low 10) ptrs ram rom bank
-      → latches p' b' w ≡ slotsRead the6567R8 (fetchLate low ptrs ram rom bank) (lateSlots the6567R8) s l
-  late-67 {p} {b} {w} d e g = pointing-alone p b w 3 (spriteAt s 3 .mc) ptrs ram rom bank _ _ e g ∙ ap (pointingRead 3 (hasBit (s .dma) 3) (spriteAt s 3 .mc) (hasBit low 10) ptrs ram rom bank) d ∙ late-ntsc s eight low ptrs ram rom bank l
+pub places-fit : (k : Kind) → (placeEarly k < 8) × (placeLate k < 8)
+unfolding placeEarly placeLate
+places-fit the6569 = (omega arith, omega arith)
+places-fit the6567R8 = (omega arith, omega arith)
 
 -- the column of a kind
-pub is-67 : (kind : ℕ) → eqb kind 1 ≡ true → kindOf kind ≡ the6567R8
+pub is-67 : (kind : ℕ) → kind ≡ 1 → kindOf kind ≡ the6567R8
 unfolding kindOf
-is-67 kind e = rw e
+is-67 kind e = rw (eq-eqb kind 1 e)
 
-pub is-69 : (kind : ℕ) → eqb kind 1 ≡ false → kindOf kind ≡ the6569
+pub is-69 : (kind : ℕ) → (kind ≡ 1 → ⊥) → kindOf kind ≡ the6569
 unfolding kindOf
-is-69 kind e = rw e
-
-pub early-of : {k j : Kind} (f : Fetch) (s : Sprites) (l : Latches) {r : Latches} → k ≡ j → r ≡ slotsRead j f (earlySlots j) s l → r ≡ slotsRead k f (earlySlots k) s l
-early-of f s l h e = e ∙ ap (λ (i : Kind). slotsRead i f (earlySlots i) s l) (sym h)
-
-pub late-of : {k j : Kind} (f : Fetch) (s : Sprites) (l : Latches) {r : Latches} → k ≡ j → r ≡ slotsRead j f (lateSlots j) s l → r ≡ slotsRead k f (lateSlots k) s l
-late-of f s l h e = e ∙ ap (λ (i : Kind). slotsRead i f (lateSlots i) s l) (sym h)
+is-69 kind e = rw (ne-eqb kind 1 e)

@@ -17,7 +17,7 @@ use Rattle.sprites.specs.Set.{sprite-mc≔, each≔}
 use Rattle.picture.specs.Pen.{Latches}
 use Rattle.lines.specs.Sprites.{Slot, pointing, fetching, pair, earlySlots, lateSlots}
 use Rattle.lines.specs.Slots.{Fetch, lowAt, slotReads, slotsRead}
-use Rattle.fetches.specs.Fetches.{latches, fetchEarly, fetchLate, mcMoved, pointingRead, fetchingRead, pairRead, spriteRead, fourFive, sixSeven, fourToSeven, zeroOne, zeroToTwo}
+use Rattle.fetches.specs.Fetches.{latches, fetchEarly, fetchLate, mcMoved, pointingRead, fetchingRead, pairRead, spriteRead, fourFive, sixSeven, fourToSeven, zeroOne, zeroToTwo, placeEarly, placeLate, thirdEarly, thirdLate}
 
 -- t is s but for sprites below m
 pub record From (m : ℕ) (s t : Sprites) : Type 0 where
@@ -117,7 +117,7 @@ module _ (k : Kind) (f : Fetch) (n : ℕ) {s t : Sprites} (h : From n s t) (l : 
   pair-first b more = ap (slotsRead k f more (fetched n 2 (fetched n 1 t))) (both b)
 
 module _ (s : Sprites) (e : length (s .each) ≡ 8) (low ptrs : ℕ) (ram rom : List ℕ) (bank : ℕ) (l : Latches) where
-  pub early-pal : fourToSeven s low 3 ptrs ram rom bank (spriteRead s low 3 1 2 ptrs ram rom bank l) ≡ slotsRead the6569 (fetchEarly low ptrs ram rom bank) (earlySlots the6569) s l
+  early-pal : fourToSeven s low 3 ptrs ram rom bank (spriteRead s low 3 1 2 ptrs ram rom bank l) ≡ slotsRead the6569 (fetchEarly low ptrs ram rom bank) (earlySlots the6569) s l
   unfolding fourToSeven fourFive sixSeven pick slotAfterBus
   early-pal =
       let f = fetchEarly low ptrs ram rom bank in
@@ -136,7 +136,7 @@ module _ (s : Sprites) (e : length (s .each) ≡ 8) (low ptrs : ℕ) (ram rom : 
       ∙ pair-first the6569 f 6 h6 l6 (omega arith) (pair 7 [])
       ∙ pair-first the6569 f 7 h7 l7 (omega arith) [])
 
-  pub early-ntsc : fourToSeven s low 2 ptrs ram rom bank (fetchingRead 3 (hasBit (s .dma) 3) (spriteAt s 3 .mc) (hasBit low 1) ram rom bank l) ≡ slotsRead the6567R8 (fetchEarly low ptrs ram rom bank) (earlySlots the6567R8) s l
+  early-ntsc : fourToSeven s low 2 ptrs ram rom bank (fetchingRead 3 (hasBit (s .dma) 3) (spriteAt s 3 .mc) (hasBit low 1) ram rom bank l) ≡ slotsRead the6567R8 (fetchEarly low ptrs ram rom bank) (earlySlots the6567R8) s l
   unfolding fourToSeven fourFive sixSeven pick slotAfterBus
   early-ntsc =
       let f = fetchEarly low ptrs ram rom bank in
@@ -155,7 +155,7 @@ module _ (s : Sprites) (e : length (s .each) ≡ 8) (low ptrs : ℕ) (ram rom : 
       ∙ pair-first the6567R8 f 6 h6 l6 (omega arith) (pair 7 [])
       ∙ pair-first the6567R8 f 7 h7 l7 (omega arith) [])
 
-  pub late-pal : zeroToTwo s low 4 ptrs ram rom bank l ≡ slotsRead the6569 (fetchLate low ptrs ram rom bank) (lateSlots the6569) s l
+  late-pal : zeroToTwo s low 4 ptrs ram rom bank l ≡ slotsRead the6569 (fetchLate low ptrs ram rom bank) (lateSlots the6569) s l
   unfolding zeroToTwo zeroOne pick slotAfterBus
   late-pal =
       let f = fetchLate low ptrs ram rom bank in
@@ -168,7 +168,7 @@ module _ (s : Sprites) (e : length (s .each) ≡ 8) (low ptrs : ℕ) (ram rom : 
       ∙ pair-first the6569 f 1 h1 l1 (omega arith) (pair 2 [])
       ∙ pair-first the6569 f 2 h2 l2 (omega arith) [])
 
-  pub late-ntsc : pointingRead 3 (hasBit (s .dma) 3) (spriteAt s 3 .mc) (hasBit low 10) ptrs ram rom bank (zeroToTwo s low 5 ptrs ram rom bank l) ≡ slotsRead the6567R8 (fetchLate low ptrs ram rom bank) (lateSlots the6567R8) s l
+  late-ntsc : pointingRead 3 (hasBit (s .dma) 3) (spriteAt s 3 .mc) (hasBit low 10) ptrs ram rom bank (zeroToTwo s low 5 ptrs ram rom bank l) ≡ slotsRead the6567R8 (fetchLate low ptrs ram rom bank) (lateSlots the6567R8) s l
   unfolding zeroToTwo zeroOne pick slotAfterBus
   late-ntsc =
       let f = fetchLate low ptrs ram rom bank in
@@ -183,3 +183,13 @@ module _ (s : Sprites) (e : length (s .each) ≡ 8) (low ptrs : ℕ) (ram rom : 
       ∙ pair-first the6567R8 f 1 h1 l1 (omega arith) (pair 2 (pointing 3 ∷ []))
       ∙ pair-first the6567R8 f 2 h2 l2 (omega arith) (pointing 3 ∷ [])
       ∙ point the6567R8 f 3 h3 l3)
+
+  pub early-slots : (k : Kind) → fourToSeven s low (placeEarly k) ptrs ram rom bank (thirdEarly s low k ptrs ram rom bank l) ≡ slotsRead k (fetchEarly low ptrs ram rom bank) (earlySlots k) s l
+  unfolding placeEarly thirdEarly
+  early-slots the6569 = early-pal
+  early-slots the6567R8 = early-ntsc
+
+  pub late-slots : (k : Kind) → thirdLate s low k ptrs ram rom bank (zeroToTwo s low (placeLate k) ptrs ram rom bank l) ≡ slotsRead k (fetchLate low ptrs ram rom bank) (lateSlots k) s l
+  unfolding placeLate thirdLate
+  late-slots the6569 = late-pal
+  late-slots the6567R8 = late-ntsc

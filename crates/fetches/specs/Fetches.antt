@@ -4,6 +4,7 @@ use mathlib.Core.Bool.{Bool, cond}
 use mathlib.Core.List.{List}
 use lib.Dec.{eqb}
 use Rattle.laws.specs.Bits.{hasBit}
+use Rattle.schedule.specs.Kind.{Kind, the6569, the6567R8}
 use Rattle.access.specs.Slots.{pointersAfter, byteTwoAfter, dataAfter, wordsAfter}
 use Rattle.sprites.specs.declared.Sprites.{Sprites}
 use Rattle.sprites.specs.Sprites.{spriteAt}
@@ -38,6 +39,15 @@ unfoldable pub pairRead : ℕ → Bool → ℕ → Bool → Bool → ℕ → Lis
 pairRead n on mc first second ptrs ram rom bank l =
     fetchingRead n on (mcMoved on mc) second ram rom bank (pointingRead n on mc first ptrs ram rom bank l)
 
+-- the bit from which a kind's pairs below go: the two kinds are a cycle apart
+unfoldable pub placeEarly : Kind → ℕ
+placeEarly the6569 = 3
+placeEarly the6567R8 = 2
+
+unfoldable pub placeLate : Kind → ℕ
+placeLate the6569 = 4
+placeLate the6567R8 = 5
+
 -- the pairs of slots that both kinds have in a row, from bit a of the word of AEC on
 module _ (s : Sprites) (low : ℕ) where
   abbrev pub spriteRead : ℕ → ℕ → ℕ → ℕ → List ℕ → List ℕ → ℕ → Latches → Latches
@@ -57,3 +67,12 @@ module _ (s : Sprites) (low : ℕ) where
 
   unfoldable pub zeroToTwo : ℕ → ℕ → List ℕ → List ℕ → ℕ → Latches → Latches
   zeroToTwo a ptrs ram rom bank l = spriteRead 2 (a + 3) (a + 4) ptrs ram rom bank (zeroOne a ptrs ram rom bank l)
+
+  -- sprite 3's slots at a line's beginning and at its end: on the 6567R8 the line ends between the two
+  unfoldable pub thirdEarly : Kind → ℕ → List ℕ → List ℕ → ℕ → Latches → Latches
+  thirdEarly the6569 ptrs ram rom bank l = spriteRead 3 1 2 ptrs ram rom bank l
+  thirdEarly the6567R8 ptrs ram rom bank l = fetchingRead 3 (hasBit (s .dma) 3) (spriteAt s 3 .mc) (hasBit low 1) ram rom bank l
+
+  unfoldable pub thirdLate : Kind → ℕ → List ℕ → List ℕ → ℕ → Latches → Latches
+  thirdLate the6569 ptrs ram rom bank l = l
+  thirdLate the6567R8 ptrs ram rom bank l = pointingRead 3 (hasBit (s .dma) 3) (spriteAt s 3 .mc) (hasBit low 10) ptrs ram rom bank l

@@ -1,15 +1,16 @@
 // The sprites' slots of a whole line: what they fetch, slot after slot in the kind's order.
 ghost use mathlib.Core.Path.{_≡_};
-ghost use mathlib.Core.Bool.{false};
-ghost use Prim.Native.Nat.{_<_};
+ghost use mathlib.Core.Bool.{true, false};
+ghost use mathlib.Core.List.{List};
+ghost use Prim.Native.Nat.{ℕ, _<_};
 ghost use lib.ListN.{length};
 ghost use Rattle.laws.specs.Bits.{hasBit};
 ghost use Rattle.memory.specs.Memory.{Lent};
 ghost use Rattle.access.specs.Slots.{pointersAfter, byteTwoAfter};
-ghost use Rattle.schedule.specs.Kind.{the6569, the6567R8, kindOf};
+ghost use Rattle.schedule.specs.Kind.{kindOf};
 ghost use Rattle.lines.specs.Sprites.{earlySlots, lateSlots};
 ghost use Rattle.lines.specs.Slots.{slotsRead};
-ghost use Rattle.fetches.specs.Fetches.{latches, fetchEarly, fetchLate, mcMoved, fetchingRead, pairRead, fourFive, sixSeven, fourToSeven, zeroOne, zeroToTwo};
+ghost use Rattle.fetches.specs.Fetches.{latches, fetchEarly, fetchLate, mcMoved, fetchingRead, pairRead, fourFive, sixSeven, fourToSeven, zeroOne, zeroToTwo, placeEarly, placeLate, thirdEarly, thirdLate};
 use sprites::Sprites;
 
 // A bit of a word: AEC in one of its cycles.
@@ -28,6 +29,73 @@ fn moved(on: bool, mc: u8) -> u8
         return (mc % 64 + 1) % 64;
     }
     mc
+}
+
+// Both slots of a sprite with DMA: a function of its own, so that the bit is a constant in each slot.
+fn pair_on(
+    pointers: &mut [u8],
+    bytes: &mut [u8],
+    words: &mut [u32],
+    k: usize,
+    mc: u8,
+    early: bool,
+    late: bool,
+    ptrs: u8,
+    ram: &[u8],
+    rom: &[u8],
+    bank: u8,
+)
+    requires { ⌜ (length (now pointers) ≡ 8) × (length (now bytes) ≡ 24) × (length (now words) ≡ 8) ⌝ ∗ ⌜ k < 8 ⌝ ∗ ⌜ Lent (now ram) (now rom) ⌝ }
+    ensures { λ _. ⌜ latches (now (pointers .exit)) (now (bytes .exit)) (now (words .exit)) ≡ pairRead k true mc early late ptrs (now (ram .entry)) (now (rom .entry)) bank (latches (now (pointers .entry)) (now (bytes .entry)) (now (words .entry))) ⌝ }
+{
+    let next = moved(true, mc);
+    access::pointer_slot(
+        pointers,
+        bytes,
+        k,
+        k == 0,
+        true,
+        mc,
+        early,
+        ptrs,
+        ram,
+        rom,
+        bank,
+    );
+    access::data_slot(pointers, bytes, words, k, true, next, late, ram, rom, bank);
+}
+
+// Both slots of a sprite without DMA, whose MC stays.
+fn pair_off(
+    pointers: &mut [u8],
+    bytes: &mut [u8],
+    words: &mut [u32],
+    k: usize,
+    mc: u8,
+    early: bool,
+    late: bool,
+    ptrs: u8,
+    ram: &[u8],
+    rom: &[u8],
+    bank: u8,
+)
+    requires { ⌜ (length (now pointers) ≡ 8) × (length (now bytes) ≡ 24) × (length (now words) ≡ 8) ⌝ ∗ ⌜ k < 8 ⌝ ∗ ⌜ Lent (now ram) (now rom) ⌝ }
+    ensures { λ _. ⌜ latches (now (pointers .exit)) (now (bytes .exit)) (now (words .exit)) ≡ pairRead k false mc early late ptrs (now (ram .entry)) (now (rom .entry)) bank (latches (now (pointers .entry)) (now (bytes .entry)) (now (words .entry))) ⌝ }
+{
+    access::pointer_slot(
+        pointers,
+        bytes,
+        k,
+        k == 0,
+        false,
+        mc,
+        early,
+        ptrs,
+        ram,
+        rom,
+        bank,
+    );
+    access::data_slot(pointers, bytes, words, k, false, mc, late, ram, rom, bank);
 }
 
 // Both slots of sprite k; AEC for the one is bit `first`, for the other bit `second`.
@@ -52,21 +120,35 @@ fn pair(
     let on = laws::has_bit(dma, k);
     let early = is_set(low, first);
     let late = is_set(low, second);
-    let next = moved(on, mc);
-    access::pointer_slot(
-        pointers,
-        bytes,
-        k,
-        k == 0,
-        on,
-        mc,
-        early,
-        ptrs,
-        ram,
-        rom,
-        bank,
-    );
-    access::data_slot(pointers, bytes, words, k, on, next, late, ram, rom, bank);
+    if on {
+        pair_on(
+            pointers,
+            bytes,
+            words,
+            k,
+            mc,
+            early,
+            late,
+            ptrs,
+            ram,
+            rom,
+            bank,
+        );
+    } else {
+        pair_off(
+            pointers,
+            bytes,
+            words,
+            k,
+            mc,
+            early,
+            late,
+            ptrs,
+            ram,
+            rom,
+            bank,
+        );
+    }
 }
 
 // Sprite 3's pointer slot alone: on the 6567R8 its data slot is in the next line.
@@ -352,12 +434,13 @@ fn zero_to_two(
     );
 }
 
-// The slots that a line of the 6569 begins with, the sprites 3 to 7.
-fn early_pal(
+// Sprite 3 as a line begins: on the 6567R8 its pointer slot was in the line before.
+fn third(
     pointers: &mut [u8],
     bytes: &mut [u8],
     words: &mut [u32],
     sprites: Sprites,
+    kind: u8,
     low: u32,
     ptrs: u8,
     ram: &[u8],
@@ -365,144 +448,87 @@ fn early_pal(
     bank: u8,
 )
     requires { ⌜ (length (now pointers) ≡ 8) × (length (now bytes) ≡ 24) × (length (now words) ≡ 8) ⌝ ∗ ⌜ Lent (now ram) (now rom) ⌝ }
-    ensures { λ _. ⌜ latches (now (pointers .exit)) (now (bytes .exit)) (now (words .exit)) ≡ slotsRead the6569 (fetchEarly low ptrs (now (ram .entry)) (now (rom .entry)) bank) (earlySlots the6569) sprites (latches (now (pointers .entry)) (now (bytes .entry)) (now (words .entry))) ⌝ }
+    ensures { λ _. ⌜ latches (now (pointers .exit)) (now (bytes .exit)) (now (words .exit)) ≡ thirdEarly sprites low (kindOf kind) ptrs (now (ram .entry)) (now (rom .entry)) bank (latches (now (pointers .entry)) (now (bytes .entry)) (now (words .entry))) ⌝ }
 {
-    pair(
-        pointers,
-        bytes,
-        words,
-        3,
-        sprites.dma,
-        sprites.each[3].mc,
-        low,
-        1,
-        2,
-        ptrs,
-        ram,
-        rom,
-        bank,
-    );
-    four_to_seven(
-        pointers,
-        bytes,
-        words,
-        sprites,
-        low,
-        3,
-        ptrs,
-        ram,
-        rom,
-        bank,
-    );
+    if kind == schedule::KIND_6567R8 {
+        data_three(
+            pointers,
+            bytes,
+            words,
+            sprites.dma,
+            sprites.each[3].mc,
+            low,
+            ram,
+            rom,
+            bank,
+        );
+    } else {
+        pair(
+            pointers,
+            bytes,
+            words,
+            3,
+            sprites.dma,
+            sprites.each[3].mc,
+            low,
+            1,
+            2,
+            ptrs,
+            ram,
+            rom,
+            bank,
+        );
+    }
 }
 
-// On the 6567R8 each of them is a cycle earlier.
-fn early_ntsc(
+// Sprite 3 as a line ends: only the 6567R8 has a slot of it there.
+fn third_late(
     pointers: &mut [u8],
     bytes: &mut [u8],
-    words: &mut [u32],
     sprites: Sprites,
+    kind: u8,
     low: u32,
     ptrs: u8,
     ram: &[u8],
     rom: &[u8],
     bank: u8,
 )
-    requires { ⌜ (length (now pointers) ≡ 8) × (length (now bytes) ≡ 24) × (length (now words) ≡ 8) ⌝ ∗ ⌜ Lent (now ram) (now rom) ⌝ }
-    ensures { λ _. ⌜ latches (now (pointers .exit)) (now (bytes .exit)) (now (words .exit)) ≡ slotsRead the6567R8 (fetchEarly low ptrs (now (ram .entry)) (now (rom .entry)) bank) (earlySlots the6567R8) sprites (latches (now (pointers .entry)) (now (bytes .entry)) (now (words .entry))) ⌝ }
+    requires { ⌜ (length (now pointers) ≡ 8) × (length (now bytes) ≡ 24) ⌝ ∗ ⌜ Lent (now ram) (now rom) ⌝ }
+    ensures { λ _. ⌜ ((words : List ℕ) → latches (now (pointers .exit)) (now (bytes .exit)) words ≡ thirdLate sprites low (kindOf kind) ptrs (now (ram .entry)) (now (rom .entry)) bank (latches (now (pointers .entry)) (now (bytes .entry)) words)) ⌝ }
 {
-    data_three(
-        pointers,
-        bytes,
-        words,
-        sprites.dma,
-        sprites.each[3].mc,
-        low,
-        ram,
-        rom,
-        bank,
-    );
-    four_to_seven(
-        pointers,
-        bytes,
-        words,
-        sprites,
-        low,
-        2,
-        ptrs,
-        ram,
-        rom,
-        bank,
-    );
+    if kind == schedule::KIND_6567R8 {
+        pointer_three(
+            pointers,
+            bytes,
+            sprites.dma,
+            sprites.each[3].mc,
+            low,
+            ptrs,
+            ram,
+            rom,
+            bank,
+        );
+    }
 }
 
-// The slots that a line of the 6569 ends with; bit 4 of the word is cycle 58.
-fn late_pal(
-    pointers: &mut [u8],
-    bytes: &mut [u8],
-    words: &mut [u32],
-    sprites: Sprites,
-    low: u32,
-    ptrs: u8,
-    ram: &[u8],
-    rom: &[u8],
-    bank: u8,
-)
-    requires { ⌜ (length (now pointers) ≡ 8) × (length (now bytes) ≡ 24) × (length (now words) ≡ 8) ⌝ ∗ ⌜ Lent (now ram) (now rom) ⌝ }
-    ensures { λ _. ⌜ latches (now (pointers .exit)) (now (bytes .exit)) (now (words .exit)) ≡ slotsRead the6569 (fetchLate low ptrs (now (ram .entry)) (now (rom .entry)) bank) (lateSlots the6569) sprites (latches (now (pointers .entry)) (now (bytes .entry)) (now (words .entry))) ⌝ }
+// The bit of sprite 4's data at a line's beginning: on the 6567R8 it is a cycle earlier.
+fn place_early(kind: u8) -> u32
+    ensures { λ r. ⌜ r ≡ placeEarly (kindOf kind) ⌝ }
 {
-    zero_to_two(
-        pointers,
-        bytes,
-        words,
-        sprites,
-        low,
-        4,
-        ptrs,
-        ram,
-        rom,
-        bank,
-    );
+    if kind == schedule::KIND_6567R8 {
+        return 2;
+    }
+    3
 }
 
-// On the 6567R8 each of them is a cycle later, and sprite 3's pointer is one more.
-fn late_ntsc(
-    pointers: &mut [u8],
-    bytes: &mut [u8],
-    words: &mut [u32],
-    sprites: Sprites,
-    low: u32,
-    ptrs: u8,
-    ram: &[u8],
-    rom: &[u8],
-    bank: u8,
-)
-    requires { ⌜ (length (now pointers) ≡ 8) × (length (now bytes) ≡ 24) × (length (now words) ≡ 8) ⌝ ∗ ⌜ Lent (now ram) (now rom) ⌝ }
-    ensures { λ _. ⌜ latches (now (pointers .exit)) (now (bytes .exit)) (now (words .exit)) ≡ slotsRead the6567R8 (fetchLate low ptrs (now (ram .entry)) (now (rom .entry)) bank) (lateSlots the6567R8) sprites (latches (now (pointers .entry)) (now (bytes .entry)) (now (words .entry))) ⌝ }
+// The bit of sprite 0's pointer at its end, cycle 58: on the 6567R8 it is a cycle later.
+fn place_late(kind: u8) -> u32
+    ensures { λ r. ⌜ r ≡ placeLate (kindOf kind) ⌝ }
 {
-    zero_to_two(
-        pointers,
-        bytes,
-        words,
-        sprites,
-        low,
-        5,
-        ptrs,
-        ram,
-        rom,
-        bank,
-    );
-    pointer_three(
-        pointers,
-        bytes,
-        sprites.dma,
-        sprites.each[3].mc,
-        low,
-        ptrs,
-        ram,
-        rom,
-        bank,
-    );
+    if kind == schedule::KIND_6567R8 {
+        return 5;
+    }
+    4
 }
 
 // What the slots at the beginning of a line fetch; bit c of `low` is set where AEC is low in cycle c.
@@ -521,11 +547,31 @@ pub fn early(
     requires { ⌜ (length (now pointers) ≡ 8) × (length (now bytes) ≡ 24) × (length (now words) ≡ 8) ⌝ ∗ ⌜ Lent (now ram) (now rom) ⌝ }
     ensures { λ _. ⌜ latches (now (pointers .exit)) (now (bytes .exit)) (now (words .exit)) ≡ slotsRead (kindOf kind) (fetchEarly low ptrs (now (ram .entry)) (now (rom .entry)) bank) (earlySlots (kindOf kind)) sprites (latches (now (pointers .entry)) (now (bytes .entry)) (now (words .entry))) ⌝ }
 {
-    if kind == schedule::KIND_6567R8 {
-        early_ntsc(pointers, bytes, words, sprites, low, ptrs, ram, rom, bank);
-    } else {
-        early_pal(pointers, bytes, words, sprites, low, ptrs, ram, rom, bank);
-    }
+    let at = place_early(kind);
+    third(
+        pointers,
+        bytes,
+        words,
+        sprites,
+        kind,
+        low,
+        ptrs,
+        ram,
+        rom,
+        bank,
+    );
+    four_to_seven(
+        pointers,
+        bytes,
+        words,
+        sprites,
+        low,
+        at,
+        ptrs,
+        ram,
+        rom,
+        bank,
+    );
 }
 
 // What the slots at its end fetch, with the sprites as the load of MC left them; bit c - 54 of `low` is for cycle c.
@@ -544,9 +590,18 @@ pub fn late(
     requires { ⌜ (length (now pointers) ≡ 8) × (length (now bytes) ≡ 24) × (length (now words) ≡ 8) ⌝ ∗ ⌜ Lent (now ram) (now rom) ⌝ }
     ensures { λ _. ⌜ latches (now (pointers .exit)) (now (bytes .exit)) (now (words .exit)) ≡ slotsRead (kindOf kind) (fetchLate low ptrs (now (ram .entry)) (now (rom .entry)) bank) (lateSlots (kindOf kind)) sprites (latches (now (pointers .entry)) (now (bytes .entry)) (now (words .entry))) ⌝ }
 {
-    if kind == schedule::KIND_6567R8 {
-        late_ntsc(pointers, bytes, words, sprites, low, ptrs, ram, rom, bank);
-    } else {
-        late_pal(pointers, bytes, words, sprites, low, ptrs, ram, rom, bank);
-    }
+    let at = place_late(kind);
+    zero_to_two(
+        pointers,
+        bytes,
+        words,
+        sprites,
+        low,
+        at,
+        ptrs,
+        ram,
+        rom,
+        bank,
+    );
+    third_late(pointers, bytes, sprites, kind, low, ptrs, ram, rom, bank);
 }

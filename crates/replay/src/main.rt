@@ -3,6 +3,7 @@
 ghost use mathlib.Core.Path.{_≡_};
 ghost use lib.ListN.{length};
 use access::Reads;
+use chip::Answer;
 use chip::Chip;
 use libc::STDIN_FILENO;
 use libc::STDOUT_FILENO;
@@ -45,6 +46,46 @@ fn stepped(chip: Chip, memories: &[u8], bank: u8, step: Step) -> Told
         reads: reads,
         chip: after,
     }
+}
+
+fn answered(answer: Answer) -> Told {
+    let after = answer.chip;
+    let reads = answer.reads;
+    Told {
+        refused: answer.refused,
+        value: 0,
+        reads: reads,
+        chip: after,
+    }
+}
+
+// The next line as a whole.
+fn lined(chip: Chip, memories: &[u8], bank: u8) -> Told
+    requires { ⌜ length (now memories) ≡ 21504 ⌝ }
+{
+    let answer = sequencer::line(
+        chip,
+        &memories[0..16384],
+        &memories[16384..20480],
+        &memories[20480..21504],
+        bank,
+    );
+    answered(answer)
+}
+
+// Ticks in one call.
+fn together(chip: Chip, memories: &[u8], bank: u8, n: u64) -> Told
+    requires { ⌜ length (now memories) ≡ 21504 ⌝ }
+{
+    let answer = sequencer::ticks(
+        chip,
+        &memories[0..16384],
+        &memories[16384..20480],
+        &memories[20480..21504],
+        bank,
+        n,
+    );
+    answered(answer)
 }
 
 // The calls that a run file has too: up to 5 their numbers are its kinds.
@@ -92,12 +133,19 @@ fn perform(chip: Chip, memories: &[u8], call: u8, bank: u8, a: u8, b: u8, c: u8,
     if call == 13 {
         return valued(lost(chip), chip);
     }
+    if call == 14 {
+        return lined(chip, memories, bank);
+    }
+    if call == 15 {
+        return together(chip, memories, bank, a as u64 + b as u64 * 256);
+    }
     valued(0, chip::power_up(a))
 }
 
-// A run file has the first six, 7 to 9 and 13 are questions, 10 and 11 the control registers, 12 is power-up; 6 is retired.
+// A run file has the first six, 7 to 9 and 13 are questions, 10 and 11 the control registers, 12 is power-up, 14 a line and 15 a run of ticks;
+// 6 is retired.
 fn is_call(call: u8) -> bool {
-    (call <= 13) & (call != 6)
+    (call <= 15) & (call != 6)
 }
 
 // Writes one answer; false where that fails.

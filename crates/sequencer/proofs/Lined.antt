@@ -1,11 +1,11 @@
 -- The line as a call: it is its ticks, its refusals each exactly where they are due, and what a run of lines holds. Assumes nothing.
-use Prim.Native.Nat.{ℕ, zero, suc, _+_, _*_, _<_, _≤_}
+use Prim.Native.Nat.{ℕ, zero, suc, _+_, _-_, _*_, _/_, _<_, _≤_}
 use mathlib.Core.Path.{_≡_, refl, sym, ap, _∙_}
 use mathlib.Core.Bool.{Bool, true, false, cond}
 use mathlib.Core.List.{[]}
 use native.Mathlib.Omega.{arith}
 use native.Mathlib.Numerals.{add-one}
-use native.Mathlib.Nat.{add-comm, suc-mul}
+use native.Mathlib.Nat.{add-comm, suc-mul, div-mul-le-self}
 use lib.Dec.{eqb}
 use lib.ListN.{length}
 use borrow.Author.Tests.{eqb-true, eqb-false, ne-eqb, eq-eqb}
@@ -25,9 +25,9 @@ use Rattle.world.specs.World.{World, worldOf, chipOf}
 use Rattle.lines.specs.Whole.{lineWorld}
 use Rattle.sequencer.specs.Tick.{ticksFrom}
 use Rattle.sequencer.specs.Line.{lineChip, atLineEnd, lineable, lineRefusal, lined, linesFrom}
-use Rattle.sequencer.specs.Machinery.Parts.{Held, placeRefusal}
+use Rattle.sequencer.specs.Machinery.Parts.{Held, soundRefusal, testedFrom}
 use Rattle.sequencer.proofs.Numbers.{run-kind}
-use Rattle.sequencer.proofs.Runs.{none}
+use Rattle.sequencer.proofs.Runs.{none, only-tested, sound-passes, tested-some}
 use Rattle.sequencer.proofs.Staged.{some-after}
 use Rattle.sequencer.proofs.Until as Until
 use Rattle.sequencer.proofs.Whole.{Whole, whole-line, held-on, line-at}
@@ -166,54 +166,39 @@ more-lines h n c = refl
 pub one-line : (h : Host) (c : Chip) → linesFrom h 1 c ≡ lined h c
 one-line h = Until.one (lined h) (linesFrom h) (no-lines h) (more-lines h)
 
--- a refusal that comes before the clock's is the same whatever the clock is
-before-clock : (free fine here : Bool) (n s l : ℕ) → (cond free (cond fine (cond here 0 11) s) l ≡ 0 → ⊥)
-    → cond free (cond fine (cond here n 11) s) l ≡ cond free (cond fine (cond here 0 11) s) l
-before-clock true true true n s l z = absurd (z refl)
-before-clock true true false n s l z = refl
-before-clock true false here n s l z = refl
-before-clock false fine here n s l z = refl
-
 module _ (h : Host) (c : Chip) where
   -- a run of at least one line is refused at once, with the state unchanged
   pub lines-refused : (r n : ℕ) → lineRefusal h c ≡ r → (r ≡ 0 → ⊥) → (n ≡ 0 → ⊥) → answer r c ≡ linesFrom h n c
   unfolding lined
   lines-refused r n e nz nn = Until.refused-first (lined h) (linesFrom h) (no-lines h) (more-lines h) c r n (rw (e, ne-eqb r 0 nz)) nz nn
 
-  -- by all but its clock
-  pub place-refused : (r n : ℕ) → r ≡ placeRefusal h c → (r ≡ 0 → ⊥) → (n ≡ 0 → ⊥) → answer r c ≡ linesFrom h n c
-  unfolding placeRefusal lineRefusal
-  place-refused r n e nz nn = lines-refused r n (before-clock (eqb (lentRefusal h) 0) (eqb (stateRefusal c) 0) (atLineEnd (c .side)) _ (stateRefusal c) (lentRefusal h) (λ z. nz (e ∙ z)) ∙ sym e) nz nn
-
-  pub place-lent : {r : ℕ} → r ≡ lentRefusal h → (r ≡ 0 → ⊥) → r ≡ placeRefusal h c
-  unfolding placeRefusal
-  place-lent {r} e nz = rw (← e, ne-eqb r 0 nz)
-
-  pub place-state : {r : ℕ} → lentRefusal h ≡ 0 → r ≡ stateRefusal c → (r ≡ 0 → ⊥) → r ≡ placeRefusal h c
-  unfolding placeRefusal
-  place-state {r} l e nz = rw (l, ← e, ne-eqb r 0 nz)
-
-  module _ (l : lentRefusal h ≡ 0) (s : stateRefusal c ≡ 0) where
-    pub place-mid : (c .side .beam .cycle ≡ lastCycle (kindOf (c .side .beam .kind)) → ⊥) → 11 ≡ placeRefusal h c
-    unfolding placeRefusal
-    place-mid z = rw (l, s, ne-eqb (c .side .beam .cycle) (lastCycle (kindOf (c .side .beam .kind))) z)
-
-    pub place-end : c .side .beam .cycle ≡ lastCycle (kindOf (c .side .beam .kind)) → 0 ≡ placeRefusal h c
-    unfolding placeRefusal
-    place-end e = rw (l, s, eq-eqb (c .side .beam .cycle) (lastCycle (kindOf (c .side .beam .kind))) e)
+  -- what is lent and the state come before the cycle
+  sound-first : (soundRefusal h c ≡ 0 → ⊥) → lineRefusal h c ≡ soundRefusal h c
+  unfolding soundRefusal lineRefusal
+  sound-first nz = same (eqb (lentRefusal h) 0) (eqb (stateRefusal c) 0) refl nz
+    where
+      same : (free fine : Bool) → eqb (stateRefusal c) 0 ≡ fine → (cond free (stateRefusal c) (lentRefusal h) ≡ 0 → ⊥)
+          → cond free (cond fine (cond (atLineEnd (c .side)) (cond (lineable (kindOf (c .side .beam .kind)) (c .side .bus .clock)) 0 4) 11) (stateRefusal c)) (lentRefusal h) ≡ cond free (stateRefusal c) (lentRefusal h)
+      same true true e nz = absurd (nz (eqb-true (stateRefusal c) 0 e))
+      same true false e nz = refl
+      same false fine e nz = refl
 
   pub lines-none : (n : ℕ) → n ≡ 0 → answer 0 c ≡ linesFrom h n c
   lines-none n e = rw e (sym (no-lines h c))
 
-  pub place-passes : placeRefusal h c ≡ 0 → (lentRefusal h ≡ 0) × ((accepted c ≡ true) × (atLineEnd (c .side) ≡ true))
-  unfolding placeRefusal
-  place-passes e = places (eqb (lentRefusal h) 0) (eqb (stateRefusal c) 0) (atLineEnd (c .side)) refl refl e
-    where
-      places : (x y z : Bool) → eqb (lentRefusal h) 0 ≡ x → eqb (stateRefusal c) 0 ≡ y → _≡_ {A = ℕ} (cond x (cond y (cond z 0 11) (stateRefusal c)) (lentRefusal h)) 0 → (lentRefusal h ≡ 0) × ((accepted c ≡ true) × (z ≡ true))
-      places true true true p q e = (eqb-true (lentRefusal h) 0 p, (taken-accepted c (eqb-true (stateRefusal c) 0 q), refl))
-      places true true false p q e = absurd (omega arith)
-      places true false z p q e = absurd (eqb-false (stateRefusal c) 0 q e)
-      places false y z p q e = absurd (eqb-false (lentRefusal h) 0 p e)
+  -- what a call that only tests answers: refused, it is the refusal of the lines
+  pub lines-unsound : (n : ℕ) {a : Answer} → a ≡ testedFrom h 0 c → (a .refused ≡ 0 → ⊥) → (n ≡ 0 → ⊥) → a ≡ linesFrom h n c
+  lines-unsound n {a} e nz nn =
+      let told = e ∙ only-tested h c in
+      let z : (soundRefusal h c ≡ 0 → ⊥) = λ q. nz (ap (λ (b : Answer). b .refused) told ∙ q) in
+      told ∙ lines-refused (soundRefusal h c) n (sound-first z) z nn
+
+  -- and else nothing lent and no state is refused
+  pub sound-told : {a : Answer} → a ≡ testedFrom h 0 c → a .refused ≡ 0 → (lentRefusal h ≡ 0) × (accepted c ≡ true)
+  sound-told {a} e z = sound-passes h c (sym (ap (λ (b : Answer). b .refused) (e ∙ only-tested h c)) ∙ z)
+
+  pub lines-mid : (n : ℕ) → (lentRefusal h ≡ 0) × (accepted c ≡ true) → (c .side .beam .cycle ≡ lastCycle (kindOf (c .side .beam .kind)) → ⊥) → (n ≡ 0 → ⊥) → answer 11 c ≡ linesFrom h n c
+  lines-mid n p z nn = lines-refused 11 n (line-11-then h c (p .0) (p .1) (ne-eqb (c .side .beam .cycle) (lastCycle (kindOf (c .side .beam .kind))) z)) (λ q. absurd (omega (arith, q))) nn
 
 module _ (h : Host) (g : Registers) (w₀ : World) (n : ℕ) where
   pub record Lining (w : World) (i : ℕ) : Type 0 where
@@ -291,3 +276,19 @@ module _ (h : Host) (c : Chip) where
   lines-are-their-ticks n e =
       let s = lines-ticks n e .state in
       (ap (λ (a : Answer). a .refused) s, sym (ap (λ (a : Answer). a .chip) s))
+
+  -- ticks that go on after lines
+  pub lines-then : (n k : ℕ) → linesFrom h n c .refused ≡ 0 → 0 < k → ticksFrom h (k + n * cycles) c ≡ ticksFrom h k (linesFrom h n c .chip)
+  lines-then n k e some = some-after h c (linesFrom h n c .chip) (n * cycles) k (lines-ticks n e .state) some
+
+  -- a run of ticks with lines in it: so many of them, and the rest by ticks
+  pub after-lines : (n m : ℕ) {last : ℕ} {a b : Answer} → last ≡ cycles → m * last < n → a ≡ linesFrom h m c → a .refused ≡ 0 → b ≡ testedFrom h (n - m * last) (a .chip) → b ≡ ticksFrom h n c
+  after-lines n m {last} {a} p l e z f =
+      let some : 0 < n - m * last = omega (arith, l) in
+      let sum : (n - m * last) + m * last ≡ n = omega (arith, l) in
+      let went = rw (← p, sum, ← e) at (lines-then m (n - m * last) (ap (λ (x : Answer). x .refused) (sym e) ∙ z) some) in
+      f ∙ tested-some h (a .chip) (n - m * last) (λ q. omega (arith, some, q)) ∙ sym went
+
+-- as many lines as end before the last of n ticks
+pub lines-before : (n last : ℕ) → (n ≡ 0 → ⊥) → ((n - 1) / last) * last < n
+lines-before n last z = omega (arith, div-mul-le-self (n - 1) last, z)

@@ -19,7 +19,7 @@ use Rattle.chip.specs.Accept.{accepted, stateRefusal}
 use Rattle.chip.proofs.Fine.{taken-accepted, unknown-12, only-unknown-12}
 use Rattle.world.specs.Tick.{tickWorld, tickOf}
 use Rattle.sequencer.specs.Tick.{tickable, tickRefusal, ticked, ticksFrom}
-use Rattle.sequencer.proofs.Runs.{state-first}
+use Rattle.sequencer.proofs.Runs.{tested-state, tested-some}
 
 abbrev AtMost : ℕ → ℕ → Type 0
 AtMost m n = n ≤ m
@@ -80,7 +80,7 @@ module _ (h : Host) (c : Chip) where
 
   -- a run of at least one tick is refused at once, with the state unchanged; so is a tick, which is a run of one
   pub ticks-12-then : (n : ℕ) → (n ≡ 0 → ⊥) → lentRefusal h ≡ 0 → known (c .side .beam .kind) ≡ false → answer 12 c ≡ ticksFrom h n c
-  ticks-12-then n some l k = state-first h c n l (sym (unknown-12 c k)) (λ z. omega arith) some
+  ticks-12-then n some l k = tested-state h c n l (sym (unknown-12 c k)) (λ z. omega arith) ∙ tested-some h c n some
 
 -- no tick changes the kind
 tick-kind : (h : Host) (c : Chip) → tickOf h c .side .beam .kind ≡ c .side .beam .kind

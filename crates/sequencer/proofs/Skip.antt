@@ -34,7 +34,7 @@ use Rattle.picture.specs.Pen.{penAfter}
 use Rattle.picture.specs.Reads.{readsBy}
 use Rattle.picture.proofs.Laws.{matrix-length, slotted-pointers, slotted-bytes, slotted-words, no-slot, changing-over}
 use Rattle.picture.proofs.Plain.{Plain, plain-matrix, pen-again, reads-again}
-use Rattle.sequencer.specs.declared.Core.{Core}
+use Rattle.engine.specs.declared.Core.{Core}
 use Rattle.world.specs.World.{World, chipOf}
 use Rattle.sequencer.specs.Machinery.Parts.{Ready, Held, Roomy}
 use Rattle.world.specs.Tick.{tickWorld, tickReads}

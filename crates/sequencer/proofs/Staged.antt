@@ -1,15 +1,16 @@
 -- A run in parts: what a part holds from tick to tick, how it ends, and how a run goes on by one. Assumes nothing.
 use Prim.Native.Nat.{ℕ, zero, suc, _+_, _-_, _<_, _≤_}
 use mathlib.Core.Path.{_≡_, refl, sym, _∙_, ap}
-use mathlib.Core.Bool.{Bool, true, false, true≢false}
+use mathlib.Core.Bool.{Bool, true, false, true≢false, _||_}
 use mathlib.Core.List.{[]}
 use native.Mathlib.Omega.{arith}
 use native.Mathlib.Decide.{decLt}
 use native.Mathlib.Nat.{zero-add, suc-add}
+use lib.Dec.{eqb, leb}
 use lib.IntN.{ℤ, pos, negsuc}
 use lib.Signed.{ltZ}
 use lib.ListN.{length}
-use borrow.Author.Tests.{le-leb, ltb-false}
+use borrow.Author.Tests.{le-leb, leb-false, ltb-false, eqb-false}
 use Rattle.laws.specs.Clock.{lastTickable, canTick}
 use Rattle.memory.specs.Lent.{Host}
 use Rattle.registers.specs.declared.Registers.{Registers}
@@ -19,12 +20,13 @@ use Rattle.side.proofs.Kept.{side-clock}
 use Rattle.arbitration.specs.Bus.{clockOn}
 use Rattle.arbitration.proofs.Kept.{clock-on}
 use Rattle.chip.specs.declared.Chip.{Chip}
+use Rattle.chip.specs.declared.Answer.{Answer}
 use Rattle.chip.specs.Chip.{reading}
 use Rattle.world.specs.World.{World, chipOf}
 use Rattle.world.specs.Tick.{tickWorld, tickReads}
 use Rattle.sequencer.specs.Tick.{tickable, ticksFrom}
-use Rattle.sequencer.specs.Machinery.Parts.{Held, Roomy, Part}
-use Rattle.sequencer.proofs.Runs.{Going, next, one-tick, begun, on}
+use Rattle.sequencer.specs.Machinery.Parts.{Held, Roomy, Part, testedFrom}
+use Rattle.sequencer.proofs.Runs.{Going, next, one-tick, begun, on, unrefused, refused-stays, tested-some}
 
 -- room for one more tick, and what is left after it
 pub room-now : (k : ℕ) (z : ℤ) → 0 < k → Roomy k z → tickable z ≡ true
@@ -118,3 +120,25 @@ carried {h} {g} {w₀} {w} {v} {n} {i} {m} {k} r p some f l =
       state = rw sum at (some-after h (chipOf g w₀) (chipOf g w) i k (r .state) (p .moved refl some) ∙ p .state);
       held = p .held;
     }
+
+-- ---- ticks to the line's end, and what follows them
+
+pub beyond : (first n : ℕ) → (eqb first 0 || leb n first) ≡ false → (first ≡ 0 → ⊥) × (first < n)
+beyond first n e = apart (eqb first 0) (leb n first) refl refl e
+  where
+    apart : (x y : Bool) → eqb first 0 ≡ x → leb n first ≡ y → (x || y) ≡ false → (first ≡ 0 → ⊥) × (first < n)
+    apart false false p q e = (eqb-false first 0 p, leb-false n first q)
+    apart true y p q e = absurd (true≢false e)
+    apart false true p q e = absurd (true≢false e)
+
+module _ (h : Host) (c : Chip) (first n : ℕ) (some : (first ≡ 0 → ⊥) × (first < n)) {a : Answer} (e : a ≡ testedFrom h first c) where
+  begins : a ≡ ticksFrom h first c
+  begins = e ∙ tested-some h c first (some .0)
+
+  pub refused-before : (a .refused ≡ 0 → ⊥) → a ≡ ticksFrom h n c
+  refused-before nz = begins ∙ refused-stays h c first n (omega (arith, some .1)) (λ z. nz (ap (λ (x : Answer). x .refused) begins ∙ z))
+
+  pub after-ticks : {b : Answer} → a .refused ≡ 0 → b ≡ ticksFrom h (n - first) (a .chip) → b ≡ ticksFrom h n c
+  after-ticks z f =
+      let sum : (n - first) + first ≡ n = omega (arith, some .1) in
+      f ∙ sym (rw sum at (some-after h c (a .chip) first (n - first) (sym begins ∙ unrefused a z) (omega (arith, some .1))))

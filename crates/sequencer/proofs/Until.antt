@@ -1,5 +1,5 @@
 -- Calls of one kind, one after the other, until one is refused: what holds of a run of ticks and of a run of lines alike. Assumes nothing.
-use Prim.Native.Nat.{ℕ, zero, suc, _+_, _-_, _<_}
+use Prim.Native.Nat.{ℕ, zero, suc, _+_, _-_, _<_, _≤_}
 use mathlib.Core.Path.{_≡_, refl, sym, _∙_}
 use mathlib.Core.Bool.{true, false, cond}
 use native.Mathlib.Omega.{arith}
@@ -27,6 +27,11 @@ module _ (call : Chip → Answer) (from : ℕ → Chip → Answer)
   ended c t i n e r l =
       let q : (n - suc i) + suc i ≡ n = omega arith in
       sym (rw q at (stays c t (suc i) e r (n - suc i)))
+
+  pub stays-refused : (c : Chip) (i n : ℕ) → i ≤ n → (from i c .refused ≡ 0 → ⊥) → from i c ≡ from n c
+  stays-refused c i n l nz =
+      let q : (n - i) + i ≡ n = omega arith in
+      sym (rw q at (stays c (from i c) i refl (ne-eqb (from i c .refused) 0 nz) (n - i)))
 
   pub next : (c d : Chip) {r : Reads} (i : ℕ) → from i c ≡ reading d r → from (suc i) c ≡ call d
   next c d i e = rw (more i c, e)

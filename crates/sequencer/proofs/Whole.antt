@@ -1,19 +1,17 @@
 -- A line as a whole among ticks: all the ticks of a line that is not refused are taken, and end where it ends. Assumes nothing.
-use Prim.Native.Nat.{ℕ, zero, suc, _+_, _-_, _<_, _≤_}
+use Prim.Native.Nat.{ℕ, zero, suc, _+_, _-_}
 use mathlib.Core.Path.{_≡_, refl, _∙_}
 use mathlib.Core.List.{[]}
-use mathlib.Core.Bool.{Bool, true, false, false≢true, _&&_}
+use mathlib.Core.Bool.{true, false≢true}
 use native.Mathlib.Omega.{arith}
-use lib.Dec.{eqb, ltb}
 use lib.IntN.{ℤ, pos, negsuc}
 use lib.ListN.{length}
 use lib.Signed.{leZ}
-use borrow.Author.Tests.{eqb-true, eq-eqb, leb-true, ltb-true}
+use borrow.Author.Tests.{eqb-true, eq-eqb, leb-true}
 use Rattle.laws.specs.Clock.{lastClock, inRange}
-use Rattle.laws.proofs.Choice.{left, right, by-test}
 use Rattle.schedule.specs.Kind.{Kind, the6569, the6567R8, kindOf, lastCycle}
-use Rattle.schedule.proofs.Places.{last-most, last-least}
 use Rattle.memory.specs.Lent.{Host, lentRefusal}
+use Rattle.memory.proofs.Lent.{host-lent, host-colour}
 use Rattle.registers.specs.declared.Registers.{Registers}
 use Rattle.registers.specs.Control.{timed}
 use Rattle.access.specs.declared.Reads.{Reads}
@@ -28,9 +26,10 @@ use Rattle.world.specs.Tick.{tickWorld, tickReads}
 use Rattle.lines.specs.Whole.{lineWorld}
 use Rattle.lines.specs.Lines.{ticksOn}
 use Rattle.lines.proofs.Lines.{a-line-is-its-ticks, another-line-can-follow}
+use Rattle.engine.specs.World.{Takes, Begins}
 use Rattle.sequencer.specs.Tick.{ticksFrom}
 use Rattle.sequencer.specs.Line.{lastLineable, atLineEnd, lineable}
-use Rattle.sequencer.specs.Machinery.Parts.{Held, Roomy, Piece, aheadOf, wholeNext}
+use Rattle.sequencer.specs.Machinery.Parts.{Held, Roomy}
 use Rattle.sequencer.proofs.Kept.{world-kept}
 use Rattle.sequencer.proofs.Runs.{next, none}
 use Rattle.sequencer.proofs.Sides.{tick-taken}
@@ -49,45 +48,9 @@ line-room the6569 (pos n) e t = omega (arith, leb-true n (lastLineable the6569) 
 line-room the6567R8 (pos n) e t = omega (arith, leb-true n (lastLineable the6567R8) t)
 line-room k (negsuc n) e t = absurd (false≢true e)
 
--- ---- how far a part may go
-
-module _ (k : Kind) (cycle : ℕ) where
-  module _ (n : ℕ) where
-    pub ahead-left : {last : ℕ} → last ≡ lastCycle k → (ltb cycle last && ltb last n) ≡ true → last - cycle ≡ aheadOf k cycle n
-    unfolding aheadOf
-    ahead-left e t = rw (e, rw e at t)
-
-    pub ahead-next : {last : ℕ} → last ≡ lastCycle k → (ltb cycle last && ltb last n) ≡ false → last ≡ aheadOf k cycle n
-    unfolding aheadOf
-    ahead-next e t = rw (e, rw e at t)
-
-    pub ahead-some : 0 < aheadOf k cycle n
-    unfolding aheadOf
-    ahead-some =
-        by-test (λ (m : ℕ). 0 < m) (ltb cycle (lastCycle k) && ltb (lastCycle k) n)
-        (λ e. omega (arith, ltb-true cycle (lastCycle k) (left (ltb cycle (lastCycle k)) (ltb (lastCycle k) n) e)))
-        (λ e. omega (arith, last-least k))
-
-    pub ahead-few : aheadOf k cycle n < 66
-    unfolding aheadOf
-    ahead-few = by-test (λ (m : ℕ). m < 66) (ltb cycle (lastCycle k) && ltb (lastCycle k) n) (λ e. omega (arith, last-most k)) (λ e. last-most k)
-
-  pub whole-same : (z : ℤ) (n : ℕ) {last : ℕ} {can : Bool} → last ≡ lastCycle k → can ≡ lineable k z → (eqb cycle last && ltb last n && can) ≡ wholeNext k cycle z n
-  unfolding wholeNext
-  whole-same z n e f = rw (e, f)
-
-  module _ (z : ℤ) (n : ℕ) (e : wholeNext k cycle z n ≡ true) where
-    pub whole-at : eqb cycle (lastCycle k) ≡ true
-    unfolding wholeNext
-    whole-at = left (eqb cycle (lastCycle k)) (ltb (lastCycle k) n) (left (eqb cycle (lastCycle k) && ltb (lastCycle k) n) (lineable k z) e)
-
-    pub whole-before : lastCycle k < n
-    unfolding wholeNext
-    whole-before = ltb-true (lastCycle k) n (right (eqb cycle (lastCycle k)) (ltb (lastCycle k) n) (left (eqb cycle (lastCycle k) && ltb (lastCycle k) n) (lineable k z) e))
-
-    pub whole-can : lineable k z ≡ true
-    unfolding wholeNext
-    whole-can = right (eqb cycle (lastCycle k) && ltb (lastCycle k) n) (lineable k z) e
+takes : (n : ℕ) (z : ℤ) → Roomy n z → Takes n z
+takes n (pos c) r = r
+takes n (negsuc c) r = r
 
 -- ---- ticks for which the clock has room are all taken
 
@@ -143,9 +106,23 @@ module _ (h : Host) (g : Registers) (w : World) (free : lentRefusal h ≡ 0) (fi
       let e = a-line-is-its-ticks h g w (record { cycle = eqb-true (w .side .beam .cycle) (lastCycle k) at; aec = accepted-fine (chipOf g w) fine .side .aec }) in
       record { heard = t .heard; state = rw e at (t .state); kept = rw e at (t .kept) }
 
--- the same count and the same state under other names
-named : (h : Host) (c : Chip) (g : Registers) {a b : ℕ} {u v : World} {r : Reads} → a ≡ b → v ≡ u → ticksFrom h b c ≡ reading (chipOf g u) r → ticksFrom h a c ≡ reading (chipOf g v) r
-named h c g p q s = rw (p, q) s
+-- what the code of a line may lean on
+pub begins : {h : Host} {g : Registers} {w : World} → Held h g w → atLineEnd (w .side) ≡ true → lineable (kindOf (w .side .beam .kind)) (w .side .bus .clock) ≡ true → Begins h w
+begins {h} {g} {w} held at can =
+    let f = accepted-fine (chipOf g w) (held .fine) in
+    let k = kindOf (w .side .beam .kind) in
+    record {
+      lent = host-lent h (held .free);
+      colour = host-colour h (held .free);
+      forty = held .forty;
+      eight = held .eight;
+      threes = held .threes;
+      eightWords = held .eightWords;
+      side = f .side;
+      cycle = eqb-true (w .side .beam .cycle) (lastCycle k) at;
+      clock = takes (lastCycle k) (w .side .bus .clock) (line-room k (w .side .bus .clock) (accepted-clock (chipOf g w) (held .fine)) can);
+      forced = f .forced;
+    }
 
 module _ {h : Host} {g : Registers} {w v : World} (held : Held h g w) (at : atLineEnd (w .side) ≡ true)
     (can : lineable (kindOf (w .side .beam .kind)) (w .side .bus .clock) ≡ true) (e : v ≡ lineWorld h g w)
@@ -162,17 +139,3 @@ module _ {h : Host} {g : Registers} {w v : World} (held : Held h g w) (at : atLi
     eightWords = d ∙ held .eightWords;
     fine = rw e (whole .kept);
   }
-
-  -- a line as a step of a run of ticks
-  pub whole-piece : (n : ℕ) {r : Reads} → lastCycle (kindOf (w .side .beam .kind)) < n → Piece h g n w (w .side .beam .cycle) v r
-  whole-piece n l =
-      let k = kindOf (w .side .beam .kind) in
-      let q : w .side .beam .cycle ≡ lastCycle k = eqb-true (w .side .beam .cycle) (lastCycle k) at in
-      record {
-        within = omega (arith, q, l);
-        heard = whole .heard;
-        state = named h (chipOf g w) g q e (whole .state);
-        last = λ z. absurd (omega (arith, q, l, z));
-        held = held-on;
-        moved = omega (arith, q, last-least k);
-      }

@@ -1,4 +1,3 @@
-pub mod World
 pub mod Tick
 pub mod Line
 pub mod Machinery

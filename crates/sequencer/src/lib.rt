@@ -1,35 +1,31 @@
-// The tick and a run of ticks.
+// The tick, a line as a whole, and runs of both.
 // A call asks nothing of its caller: what it does not take it refuses by number, with the state unchanged.
 ghost use mathlib.Core.Path.{_≡_};
 ghost use mathlib.Core.Bool.{Bool, not};
-ghost use Prim.Native.Nat.{_<_, _≤_};
+ghost use Prim.Native.Nat.{_-_, _<_, _≤_};
 ghost use lib.ListN.{length};
 ghost use lib.IntN.{ℤ};
 ghost use Rattle.laws.specs.Clock.{inRange, canTick};
 ghost use Rattle.memory.specs.Lent.{host, lentRefusal};
+ghost use Rattle.schedule.specs.Kind.{kindOf, lastCycle};
 ghost use Rattle.schedule.specs.Machinery.Stretches.{beforeGraphics};
 ghost use Rattle.access.specs.Reads.{told};
 ghost use Rattle.access.specs.Machinery.Noted.{readsIn};
 ghost use Rattle.chip.specs.Chip.{chip};
 ghost use Rattle.chip.specs.Accept.{accepted};
 ghost use Rattle.world.specs.World.{chipOf};
-ghost use Rattle.sequencer.specs.World.{world};
+ghost use Rattle.engine.specs.World.{world};
 ghost use Rattle.world.specs.Tick.{tickWorld, tickReads};
 ghost use Rattle.sequencer.specs.Tick.{tickable, tickRefusal, ticked, ticksFrom};
-ghost use Rattle.sequencer.specs.Machinery.Parts.{Ready, Held, Roomy, Part, answered};
+ghost use Rattle.sequencer.specs.Line.{atLineEnd, lineable, lined, linesFrom};
+ghost use Rattle.sequencer.specs.Machinery.Parts.{Ready, Held, Roomy, Part, testedFrom, answered};
 ghost use Rattle.sequencer.specs.Machinery.Skip.{skippableBy, skipped, coreLater};
 use chip::Answer;
 use chip::Chip;
 use chip::Picture;
-use picture::Pen;
+use engine::Core;
 use registers::Registers;
 use side::Side;
-
-// What a run changes besides the lent arrays.
-pub struct Core {
-    pub side: Side,
-    pub pen: Pen,
-}
 
 // What a tick leaves, and its reads in one number.
 pub struct Stepped {
@@ -360,6 +356,15 @@ fn can_tick(clock: i64) -> bool
     clock <= 4611686018427387902
 }
 
+fn can_line(kind: u8, clock: i64) -> bool
+    ensures { λ r. ⌜ r ≡ lineable (kindOf kind) clock ⌝ }
+{
+    if kind == schedule::KIND_6567R8 {
+        return clock <= 4611686018427387774;
+    }
+    clock <= 4611686018427387778
+}
+
 // How many ticks a part of a run may do at most: all of them are ones that the clock takes.
 fn fitting(n: u64, clock: i64) -> u64
     requires { ⌜ 0 < n ⌝ ∗ ⌜ canTick clock ⌝ }
@@ -521,17 +526,10 @@ fn run_parts(
     }
 }
 
-// A run of ticks: acceptance is tested once, since a tick keeps it, and the picture's arrays are lent once.
-pub fn ticks(chip: Chip, ram: &[u8], rom: &[u8], colour: &[u8], bank: u8, n: u64) -> Answer
-    ensures { λ r. ⌜ r ≡ ticksFrom (host (now (ram .entry)) (now (rom .entry)) (now (colour .entry)) bank) n chip ⌝ }
+// Ticks one by one: acceptance is tested once, since a tick keeps it, and the picture's arrays are lent once. With no tick to do it still tests.
+fn tested(chip: Chip, ram: &[u8], rom: &[u8], colour: &[u8], bank: u8, n: u64) -> Answer
+    ensures { λ r. ⌜ r ≡ testedFrom (host (now (ram .entry)) (now (rom .entry)) (now (colour .entry)) bank) n chip ⌝ }
 {
-    if n == 0 {
-        return Answer {
-            refused: 0,
-            chip: chip,
-            reads: access::no_reads(),
-        };
-    }
     let lent = memory::lent_refusal(ram, rom, colour, bank);
     if lent != 0 {
         return Answer {
@@ -558,5 +556,249 @@ pub fn ticks(chip: Chip, ram: &[u8], rom: &[u8], colour: &[u8], bank: u8, n: u64
 pub fn tick(chip: Chip, ram: &[u8], rom: &[u8], colour: &[u8], bank: u8) -> Answer
     ensures { λ r. ⌜ r ≡ ticked (host (now (ram .entry)) (now (rom .entry)) (now (colour .entry)) bank) chip ⌝ }
 {
-    ticks(chip, ram, rom, colour, bank, 1)
+    tested(chip, ram, rom, colour, bank, 1)
+}
+
+// ---- a line at a time
+
+// Lines over the lent arrays, until n are done or the clock can take no more.
+fn line_run(
+    core: Core,
+    regs: Registers,
+    matrix: &mut [u16],
+    pointers: &mut [u8],
+    bytes: &mut [u8],
+    words: &mut [u32],
+    ram: &[u8],
+    rom: &[u8],
+    colour: &[u8],
+    bank: u8,
+    n: u64,
+) -> Ran
+    requires { ⌜ Held (host (now ram) (now rom) (now colour) bank) regs (world core (now matrix) (now pointers) (now bytes) (now words)) ⌝ ∗ ⌜ atLineEnd (core .side) ≡ Bool.true ⌝ }
+    ensures { λ r. ⌜ answered (r .refused) (chipOf regs (world (r .core) (now (matrix .exit)) (now (pointers .exit)) (now (bytes .exit)) (now (words .exit)))) (readsIn (r .noted)) ≡ linesFrom (host (now (ram .entry)) (now (rom .entry)) (now (colour .entry)) bank) n (chipOf regs (world core (now (matrix .entry)) (now (pointers .entry)) (now (bytes .entry)) (now (words .entry)))) ⌝ }
+{
+    let mut now = core;
+    let mut done = 0u64;
+    while done < n {
+        let side = now.side;
+        let beam = side.beam;
+        let bus = side.bus;
+        let can = can_line(beam.kind, bus.clock);
+        if !can {
+            return Ran {
+                refused: 4,
+                core: now,
+                noted: 0u64,
+            };
+        }
+        now = engine::line(
+            now,
+            regs,
+            matrix,
+            pointers,
+            bytes,
+            words,
+            ram,
+            rom,
+            colour,
+            bank,
+        );
+        done = done + 1;
+    }
+    Ran {
+        refused: 0,
+        core: now,
+        noted: 0u64,
+    }
+}
+
+// Lines over arrays.
+fn line_arrays(
+    core: Core,
+    regs: Registers,
+    matrix: &mut [u16; 40],
+    pointers: &mut [u8; 8],
+    bytes: &mut [u8; 24],
+    words: &mut [u32; 8],
+    ram: &[u8],
+    rom: &[u8],
+    colour: &[u8],
+    bank: u8,
+    n: u64,
+) -> Ran
+    requires { ⌜ lentRefusal (host (now ram) (now rom) (now colour) bank) ≡ 0 ⌝ ∗ ⌜ accepted (chipOf regs (world core (now matrix) (now pointers) (now bytes) (now words))) ≡ Bool.true ⌝ ∗ ⌜ atLineEnd (core .side) ≡ Bool.true ⌝ }
+    ensures { λ r. ⌜ answered (r .refused) (chipOf regs (world (r .core) (now (matrix .exit)) (now (pointers .exit)) (now (bytes .exit)) (now (words .exit)))) (readsIn (r .noted)) ≡ linesFrom (host (now (ram .entry)) (now (rom .entry)) (now (colour .entry)) bank) n (chipOf regs (world core (now (matrix .entry)) (now (pointers .entry)) (now (bytes .entry)) (now (words .entry)))) ⌝ }
+{
+    line_run(
+        core,
+        regs,
+        matrix,
+        pointers,
+        bytes,
+        words,
+        ram,
+        rom,
+        colour,
+        bank,
+        n,
+    )
+}
+
+// The same of a state, packed as a run of ticks is.
+fn line_parts(
+    regs: Registers,
+    side: Side,
+    picture: Picture,
+    ram: &[u8],
+    rom: &[u8],
+    colour: &[u8],
+    bank: u8,
+    n: u64,
+) -> Answer
+    requires { ⌜ lentRefusal (host (now ram) (now rom) (now colour) bank) ≡ 0 ⌝ ∗ ⌜ accepted (chip regs side picture) ≡ Bool.true ⌝ ∗ ⌜ atLineEnd side ≡ Bool.true ⌝ }
+    ensures { λ r. ⌜ r ≡ linesFrom (host (now (ram .entry)) (now (rom .entry)) (now (colour .entry)) bank) n (chip regs side picture) ⌝ }
+{
+    let pen = picture.pen;
+    let mut matrix = picture.matrix;
+    let mut pointers = picture.pointers;
+    let mut bytes = picture.bytes;
+    let mut words = picture.words;
+    let core = Core {
+        side: side,
+        pen: pen,
+    };
+    let ran = line_arrays(
+        core,
+        regs,
+        &mut matrix,
+        &mut pointers,
+        &mut bytes,
+        &mut words,
+        ram,
+        rom,
+        colour,
+        bank,
+        n,
+    );
+    let end = ran.core;
+    let side2 = end.side;
+    let pen2 = end.pen;
+    let picture2 = Picture {
+        pen: pen2,
+        matrix: matrix,
+        pointers: pointers,
+        bytes: bytes,
+        words: words,
+    };
+    let next = Chip {
+        regs: regs,
+        side: side2,
+        picture: picture2,
+    };
+    let reads = access::reads_in(ran.noted);
+    Answer {
+        refused: ran.refused,
+        chip: next,
+        reads: reads,
+    }
+}
+
+// A run of lines, each written as a whole: what is lent and acceptance are tested once, since a line keeps them and ends where the next begins.
+pub fn lines(chip: Chip, ram: &[u8], rom: &[u8], colour: &[u8], bank: u8, n: u64) -> Answer
+    ensures { λ r. ⌜ r ≡ linesFrom (host (now (ram .entry)) (now (rom .entry)) (now (colour .entry)) bank) n chip ⌝ }
+{
+    if n == 0 {
+        return Answer {
+            refused: 0,
+            chip: chip,
+            reads: access::no_reads(),
+        };
+    }
+    let sound = tested(chip, ram, rom, colour, bank, 0);
+    if sound.refused != 0 {
+        return sound;
+    }
+    let regs = chip.regs;
+    let side = chip.side;
+    let picture = chip.picture;
+    let beam = side.beam;
+    let last = schedule::last_cycle(beam.kind);
+    if beam.cycle != last {
+        return Answer {
+            refused: 11,
+            chip: chip,
+            reads: access::no_reads(),
+        };
+    }
+    line_parts(regs, side, picture, ram, rom, colour, bank, n)
+}
+
+// The next line, from a state at the last cycle of one.
+pub fn line(chip: Chip, ram: &[u8], rom: &[u8], colour: &[u8], bank: u8) -> Answer
+    ensures { λ r. ⌜ r ≡ lined (host (now (ram .entry)) (now (rom .entry)) (now (colour .entry)) bank) chip ⌝ }
+{
+    lines(chip, ram, rom, colour, bank, 1)
+}
+
+// ---- a run of ticks: to the line's end, whole lines, and the rest
+
+// How many ticks there are to the line's end.
+fn to_end(kind: u8, cycle: u16) -> u64
+    ensures { λ r. ⌜ r ≡ lastCycle (kindOf kind) - cycle ⌝ }
+{
+    let last = schedule::last_cycle(kind);
+    if cycle < last {
+        return (last - cycle) as u64;
+    }
+    0
+}
+
+// Whole lines as far as they go before the last of n ticks, whose reads are told; then ticks. Where lines are refused all is done by ticks.
+fn by_lines(chip: Chip, ram: &[u8], rom: &[u8], colour: &[u8], bank: u8, n: u64) -> Answer
+    ensures { λ r. ⌜ r ≡ ticksFrom (host (now (ram .entry)) (now (rom .entry)) (now (colour .entry)) bank) n chip ⌝ }
+{
+    if n == 0 {
+        return Answer {
+            refused: 0,
+            chip: chip,
+            reads: access::no_reads(),
+        };
+    }
+    let side = chip.side;
+    let beam = side.beam;
+    let last = schedule::last_cycle(beam.kind) as u64;
+    let whole = (n - 1) / last;
+    let far = lines(chip, ram, rom, colour, bank, whole);
+    if far.refused != 0 {
+        return tested(chip, ram, rom, colour, bank, n);
+    }
+    tested(far.chip, ram, rom, colour, bank, n - whole * last)
+}
+
+// A run that may have a whole line in it: ticks to the line's end first.
+fn long_run(chip: Chip, ram: &[u8], rom: &[u8], colour: &[u8], bank: u8, n: u64) -> Answer
+    ensures { λ r. ⌜ r ≡ ticksFrom (host (now (ram .entry)) (now (rom .entry)) (now (colour .entry)) bank) n chip ⌝ }
+{
+    let side = chip.side;
+    let beam = side.beam;
+    let first = to_end(beam.kind, beam.cycle);
+    if (first == 0) | (n <= first) {
+        return by_lines(chip, ram, rom, colour, bank, n);
+    }
+    let begun = tested(chip, ram, rom, colour, bank, first);
+    if begun.refused != 0 {
+        return begun;
+    }
+    by_lines(begun.chip, ram, rom, colour, bank, n - first)
+}
+
+// A run of ticks. One that is shorter than a line and its last tick has no whole line in it.
+pub fn ticks(chip: Chip, ram: &[u8], rom: &[u8], colour: &[u8], bank: u8, n: u64) -> Answer
+    ensures { λ r. ⌜ r ≡ ticksFrom (host (now (ram .entry)) (now (rom .entry)) (now (colour .entry)) bank) n chip ⌝ }
+{
+    if (0 < n) & (n < 64) {
+        return tested(chip, ram, rom, colour, bank, n);
+    }
+    long_run(chip, ram, rom, colour, bank, n)
 }

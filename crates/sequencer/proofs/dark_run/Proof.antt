@@ -7,7 +7,7 @@ use Rattle.memory.specs.Lent.{host}
 use Rattle.access.specs.Machinery.Noted.{readsIn}
 use Rattle.access.proofs.Back.{none-noted}
 use Rattle.schedule.specs.Machinery.Stretches.{beforeGraphics}
-use Rattle.sequencer.specs.World.{world}
+use Rattle.engine.specs.World.{world}
 use Rattle.sequencer.proofs.Runs.{ready}
 use Rattle.sequencer.proofs.Staged.{Parting, started, tickable-now, further, stopped-at, ended-at}
 use Rattle.sequencer.proofs.dark_run.Statement.{statement}

@@ -1,7 +1,7 @@
 use Rattle.laws.proofs.Signs.{back64}
 use Rattle.memory.specs.Lent.{host}
 use Rattle.side.proofs.Laws.{slot-of-eight, dark-graphics}
-use Rattle.sequencer.specs.World.{world}
+use Rattle.engine.specs.World.{world}
 use Rattle.sequencer.proofs.Glue.{can-range, tick-glue, drawn-pen, dark-told}
 use borrow.Author.Needs.{needs}
 use Rattle.sequencer.proofs.inner_dark.Statement.{statement}

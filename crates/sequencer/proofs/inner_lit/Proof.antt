@@ -8,7 +8,7 @@ use Rattle.side.proofs.Laws.{lit-pointing, lit-fetching}
 use Rattle.side.proofs.Kept.{side-clock}
 use Rattle.picture.specs.Pen.{Latches}
 use Rattle.picture.proofs.Laws.{no-slot}
-use Rattle.sequencer.specs.World.{world}
+use Rattle.engine.specs.World.{world}
 use Rattle.sequencer.proofs.Glue.{can-range, tick-glue, drawn-pen, lit-told}
 use borrow.Author.Needs.{needs}
 use Rattle.sequencer.proofs.inner_lit.Statement.{statement}

@@ -8,7 +8,7 @@ use Rattle.memory.specs.Lent.{host}
 use Rattle.access.specs.Machinery.Noted.{readsIn}
 use Rattle.access.proofs.Back.{none-noted}
 use Rattle.schedule.specs.Machinery.Stretches.{beforeGraphics}
-use Rattle.sequencer.specs.World.{world}
+use Rattle.engine.specs.World.{world}
 use Rattle.schedule.specs.Kind.{kindOf}
 use Rattle.schedule.proofs.Places.{last-most}
 use Rattle.chip.proofs.Fine.{accepted-fine}

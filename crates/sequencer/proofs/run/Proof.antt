@@ -7,7 +7,7 @@ use Rattle.laws.proofs.Signs.{back64}
 use Rattle.memory.specs.Lent.{host}
 use Rattle.access.specs.Machinery.Noted.{readsIn}
 use Rattle.access.proofs.Back.{none-noted}
-use Rattle.sequencer.specs.World.{world}
+use Rattle.engine.specs.World.{world}
 use Rattle.sequencer.proofs.Runs.{Going, begun, ready, no-more, all-done}
 use Rattle.sequencer.proofs.Staged.{carried}
 use Rattle.sequencer.proofs.run.Statement.{statement}

@@ -1,15 +1,20 @@
 use mathlib.Core.Path.{_∙_}
+use native.Mathlib.Omega.{arith}
 use Rattle.memory.specs.Lent.{host}
-use Rattle.sequencer.proofs.Runs.{one-tick}
+use Rattle.sequencer.proofs.Runs.{tested-some, one-tick}
 use borrow.Author.Needs.{needs}
 use Rattle.sequencer.proofs.tick.Statement.{statement}
 use Rattle.sequencer.proofs.tick.Tie as tie
 
-ticks-requires : tie.Need-ticks-requires
-ticks-requires c κs = search needs
+tested-requires : tie.Need-tested-requires
+tested-requires c κs = search needs
 
 returns : tie.Need-returns
-returns c = c .ticks .ensures ∙ one-tick (host (c .before .before .before .before .args .ram .now) (c .before .before .before .before .args .rom .now) (c .before .before .before .before .args .colour .now) (c .before .before .before .before .args .bank)) (c .before .before .before .before .args .chip)
+returns c =
+    let start = c .before .before .before .before in
+    let a = start .args in
+    let h = host (a .ram .now) (a .rom .now) (a .colour .now) (a .bank) in
+    c .tested .ensures ∙ tested-some h (a .chip) 1 (λ e. omega arith) ∙ one-tick h (a .chip)
 
 pub tick-spec : {M : Type 1} → statement M
-tick-spec = tie.close (tie.spec ticks-requires returns)
+tick-spec = tie.close (tie.spec tested-requires returns)

@@ -1,23 +1,21 @@
--- A run of ticks is worked in parts: a line as a whole, the cycles of a line with a graphics access, and those without one.
-use Prim.Native.Nat.{ℕ, _+_, _-_, _*_, _<_, _≤_}
+-- Ticks are worked in parts: the cycles of a line with a graphics access, and those without one.
+use Prim.Native.Nat.{ℕ, _+_, _*_, _<_, _≤_}
 use mathlib.Core.Path.{_≡_}
-use mathlib.Core.Bool.{Bool, true, _&&_, cond}
-use lib.Dec.{eqb, ltb}
+use mathlib.Core.Bool.{Bool, true, cond}
+use lib.Dec.{eqb}
 use lib.IntN.{ℤ, pos, negsuc}
 use lib.ListN.{length}
 use Rattle.laws.specs.Clock.{lastClock, inRange, canTick}
-use Rattle.schedule.specs.Kind.{Kind, lastCycle}
 use Rattle.memory.specs.Memory.{Lent}
 use Rattle.memory.specs.Lent.{Host, lentRefusal}
 use Rattle.registers.specs.declared.Registers.{Registers}
 use Rattle.access.specs.declared.Reads.{Reads}
 use Rattle.chip.specs.declared.Chip.{Chip}
 use Rattle.chip.specs.declared.Answer.{Answer}
-use Rattle.chip.specs.Chip.{reading}
+use Rattle.chip.specs.Chip.{answer, reading}
 use Rattle.chip.specs.Accept.{accepted, stateRefusal}
 use Rattle.world.specs.World.{World, chipOf}
 use Rattle.sequencer.specs.Tick.{ticksFrom}
-use Rattle.sequencer.specs.Line.{atLineEnd, lineable, linesFrom}
 
 -- what a step of a run may lean on: the lent lengths, the arrays' lengths, clocks whose difference fits, and a count that can go on
 pub record Ready (h : Host) (w : World) : Type 0 where
@@ -56,23 +54,10 @@ pub record Part (h : Host) (g : Registers) (n : ℕ) (goes : Bool) (w : World) (
   pub held : Held h g v
   pub moved : goes ≡ true → 0 < n → 0 < done
 
--- how many ticks a part of a run of n may do: to the line's end where more than a line is left, so that lines as a whole can follow
-unfoldable pub aheadOf : Kind → ℕ → ℕ → ℕ
-aheadOf k cycle n = cond (ltb cycle (lastCycle k) && ltb (lastCycle k) n) (lastCycle k - cycle) (lastCycle k)
+-- why a call is refused, apart from its cycle and its clock: what is lent, then the state
+unfoldable pub soundRefusal : Host → Chip → ℕ
+soundRefusal h c = cond (eqb (lentRefusal h) 0) (stateRefusal c) (lentRefusal h)
 
--- whether a line as a whole comes next in a run of n ticks: one begins here, it ends before the last of them, and the clock takes it
-unfoldable pub wholeNext : Kind → ℕ → ℤ → ℕ → Bool
-wholeNext k cycle clock n = eqb cycle (lastCycle k) && ltb (lastCycle k) n && lineable k clock
-
--- what a step of a run does: at least one of at most n ticks, none of them refused; where it does all n, the reads are its last tick's
-pub record Piece (h : Host) (g : Registers) (n : ℕ) (w : World) (done : ℕ) (v : World) (reads : Reads) : Type 0 where
-  pub within : done ≤ n
-  pub heard : Reads
-  pub state : ticksFrom h done (chipOf g w) ≡ reading (chipOf g v) heard
-  pub last : done ≡ n → heard ≡ reads
-  pub held : Held h g v
-  pub moved : 0 < done
-
--- why a line is refused, apart from its clock
-unfoldable pub placeRefusal : Host → Chip → ℕ
-placeRefusal h c = cond (eqb (lentRefusal h) 0) (cond (eqb (stateRefusal c) 0) (cond (atLineEnd (c .side)) 0 11) (stateRefusal c)) (lentRefusal h)
+-- n ticks of a call that tests this even where it has no tick to do
+unfoldable pub testedFrom : Host → ℕ → Chip → Answer
+testedFrom h n c = cond (eqb (soundRefusal h c) 0) (ticksFrom h n c) (answer (soundRefusal h c) c)

@@ -6,7 +6,7 @@ use Rattle.registers.specs.declared.Registers.{Registers}
 use Rattle.registers.specs.Control.{YSCROLL}
 use Rattle.schedule.specs.Diagram.{lastOf, characterAccess, left38}
 use Rattle.side.specs.Machinery.Leap.{onlyCounts, leapt}
-use Rattle.sequencer.specs.declared.Core.{Core}
+use Rattle.engine.specs.declared.Core.{Core}
 use Rattle.world.specs.World.{World}
 
 -- the timing side only counts, no change of mode is pending, and no access merges: output shut off, idle, or not in row 0
