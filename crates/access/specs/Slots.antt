@@ -24,15 +24,19 @@ orOpen seen byte = cond seen byte 0xFF
 abbrev pub pointerRead : ℕ → ℕ → List ℕ → List ℕ → ℕ → Found
 pointerRead k ptrs ram rom bank = readAt ram rom bank (pointerAddress ptrs k)
 
--- a sprite's bytes: byte 2 by the pointer just read, bytes 1 and 0 by the pointer that the sprite has
+-- a sprite's byte, by a pointer and MC
+abbrev pub byteRead : Bool → ℕ → ℕ → List ℕ → List ℕ → ℕ → Found
+byteRead on pointer mc ram rom bank = readAt ram rom bank (byteAddress on pointer mc)
+
+-- byte 2 by the pointer just read, bytes 1 and 0 by the pointer that the sprite has
 abbrev pub twoRead : ℕ → Bool → ℕ → ℕ → List ℕ → List ℕ → ℕ → Found
-twoRead k on mc ptrs ram rom bank = readAt ram rom bank (byteAddress on (pointerRead k ptrs ram rom bank .byte) mc)
+twoRead k on mc ptrs ram rom bank = byteRead on (pointerRead k ptrs ram rom bank .byte) mc ram rom bank
 
 abbrev pub oneRead : List ℕ → ℕ → Bool → ℕ → List ℕ → List ℕ → ℕ → Found
-oneRead pointers k on mc ram rom bank = readAt ram rom bank (byteAddress on (getD pointers k 0) mc)
+oneRead pointers k on mc ram rom bank = byteRead on (getD pointers k 0) mc ram rom bank
 
 abbrev pub zeroRead : List ℕ → ℕ → Bool → ℕ → List ℕ → List ℕ → ℕ → Found
-zeroRead pointers k on mc ram rom bank = readAt ram rom bank (byteAddress on (getD pointers k 0) (mc % 64 + 1))
+zeroRead pointers k on mc ram rom bank = byteRead on (getD pointers k 0) (mc % 64 + 1) ram rom bank
 
 -- 02 (viii): where a slot's two accesses read, whether or not they have the bus
 abbrev pub spots : Found → Found → Spots
@@ -48,10 +52,11 @@ unfoldable pub pointersAfter : List ℕ → ℕ → ℕ → List ℕ → List �
 pointersAfter pointers k ptrs ram rom bank = set pointers k (pointerRead k ptrs ram rom bank .byte)
 
 -- DECISIONS 5; departs, DIFFERENCES 10: with DMA it is read whatever AEC is, but for sprite 0's first; without it only with AEC low
+abbrev pub twoStored : List ℕ → ℕ → Bool → Bool → Bool → Found → List ℕ
+twoStored bytes k first on low found = set bytes (k * 3 + 2) (orOpen ((on && not first) || low) (found .byte))
+
 unfoldable pub byteTwoAfter : List ℕ → ℕ → Bool → Bool → ℕ → Bool → ℕ → List ℕ → List ℕ → ℕ → List ℕ
-byteTwoAfter bytes k first on mc low ptrs ram rom bank =
-    set bytes (k * 3 + 2)
-    (orOpen ((on && not first) || low) (twoRead k on mc ptrs ram rom bank .byte))
+byteTwoAfter bytes k first on mc low ptrs ram rom bank = twoStored bytes k first on low (twoRead k on mc ptrs ram rom bank)
 
 -- DECISIONS 5: byte 1 is read whatever AEC is, without DMA too
 unfoldable pub byteOne : List ℕ → ℕ → Bool → ℕ → List ℕ → List ℕ → ℕ → ℕ

@@ -1,7 +1,7 @@
 // What the chip reads in a cycle: the matrix, the graphics, the sprites' slots, and what an access leaves behind.
 // The picture's arrays are lent; every step takes any number, so that a state's bounds need not travel.
 ghost use mathlib.Core.Path.{_≡_};
-ghost use mathlib.Core.Bool.{Bool, cond, not, _&&_, _||_};
+ghost use mathlib.Core.Bool.{Bool, true, false, cond, not, _&&_, _||_};
 ghost use mathlib.Core.List.{[]};
 ghost use Prim.Native.Nat.{_<_};
 ghost use lib.ListN.{length};
@@ -13,7 +13,7 @@ ghost use Rattle.access.specs.Machinery.Noted.{readFor, readsOf, notedOf
 ghost use Rattle.access.specs.Matrix.{matrixEntry, fillSpot, filled, lateWord};
 ghost use Rattle.access.specs.Merge.{sinceOf, previousOf, carryOf, mixOf, latchOf, mergedAt, merged, latched};
 ghost use Rattle.access.specs.Graphics.{ecmMasked, textAddress, bitmapAddress, plainAddress, bmmFell, ecmFell, graphicsAddress, idleAddress, accessAddress};
-ghost use Rattle.access.specs.Slots.{pointerAddress, byteAddress, orOpen, pointerSpots, dataSpots, pointersAfter, byteTwoAfter, byteOne, byteZero, dataAfter, wordOf, wordsAfter};
+ghost use Rattle.access.specs.Slots.{pointerAddress, byteAddress, byteRead, orOpen, pointerSpots, dataSpots, pointersAfter, twoStored, byteTwoAfter, byteOne, byteZero, dataAfter, wordOf, wordsAfter};
 use schedule::Reasons;
 
 // The character that a graphics access uses, and the bits that a merge carries on.
@@ -399,7 +399,59 @@ pub fn or_open(seen: bool, byte: u8) -> u8
     if seen { byte } else { 255 }
 }
 
-// A pointer slot: the pointer, then byte 2. `first` is sprite 0's, which needs the bus.
+// Byte 2 of a sprite with DMA, and where it was read. `first` is sprite 0's, which needs the bus.
+fn byte_two_on(
+    bytes: &mut [u8],
+    k: usize,
+    first: bool,
+    pointer: u8,
+    mc: u8,
+    low: bool,
+    ram: &[u8],
+    rom: &[u8],
+    bank: u8,
+) -> u16
+    requires { ⌜ length (now bytes) ≡ 24 ⌝ ∗ ⌜ k < 8 ⌝ ∗ ⌜ Lent (now ram) (now rom) ⌝ }
+    ensures { λ r. ⌜ r ≡ byteRead true pointer mc (now (ram .entry)) (now (rom .entry)) bank .address ⌝ ∗ ⌜ now (bytes .exit) ≡ twoStored (now (bytes .entry)) k first true low (byteRead true pointer mc (now (ram .entry)) (now (rom .entry)) bank) ⌝ }
+{
+    let data = memory::read(ram, rom, bank, byte_address(true, pointer, mc));
+    bytes[k * 3 + 2] = or_open(!first | low, data.byte);
+    data.address
+}
+
+// Of one without: its address is the idle one, whatever its pointer and MC are.
+fn byte_two_off(bytes: &mut [u8], k: usize, low: bool, ram: &[u8], rom: &[u8], bank: u8) -> u16
+    requires { ⌜ length (now bytes) ≡ 24 ⌝ ∗ ⌜ k < 8 ⌝ ∗ ⌜ Lent (now ram) (now rom) ⌝ }
+    ensures { λ r. ⌜ r ≡ byteRead false 0 0 (now (ram .entry)) (now (rom .entry)) bank .address ⌝ ∗ ⌜ now (bytes .exit) ≡ twoStored (now (bytes .entry)) k false false low (byteRead false 0 0 (now (ram .entry)) (now (rom .entry)) bank) ⌝ }
+{
+    let data = memory::read(ram, rom, bank, 0x3FFF);
+    bytes[k * 3 + 2] = or_open(low, data.byte);
+    data.address
+}
+
+// The two stand apart, so that each is compiled for its own address.
+fn byte_two(
+    bytes: &mut [u8],
+    k: usize,
+    first: bool,
+    on: bool,
+    pointer: u8,
+    mc: u8,
+    low: bool,
+    ram: &[u8],
+    rom: &[u8],
+    bank: u8,
+) -> u16
+    requires { ⌜ length (now bytes) ≡ 24 ⌝ ∗ ⌜ k < 8 ⌝ ∗ ⌜ Lent (now ram) (now rom) ⌝ }
+    ensures { λ r. ⌜ r ≡ byteRead on pointer mc (now (ram .entry)) (now (rom .entry)) bank .address ⌝ ∗ ⌜ now (bytes .exit) ≡ twoStored (now (bytes .entry)) k first on low (byteRead on pointer mc (now (ram .entry)) (now (rom .entry)) bank) ⌝ }
+{
+    if on {
+        return byte_two_on(bytes, k, first, pointer, mc, low, ram, rom, bank);
+    }
+    byte_two_off(bytes, k, low, ram, rom, bank)
+}
+
+// A pointer slot: the pointer, then byte 2.
 pub fn pointer_slot(
     pointers: &mut [u8],
     bytes: &mut [u8],
@@ -423,11 +475,10 @@ pub fn pointer_slot(
         laws::wide(ptrs / 16) * 1024 + 1016 + k as u16,
     );
     pointers[k] = found.byte;
-    let data = memory::read(ram, rom, bank, byte_address(on, found.byte, mc));
-    bytes[k * 3 + 2] = or_open((on & !first) | low, data.byte);
+    let second = byte_two(bytes, k, first, on, found.byte, mc, low, ram, rom, bank);
     Spots {
         first: found.address,
-        second: data.address,
+        second: second,
     }
 }
 
@@ -437,7 +488,64 @@ pub fn word_of(two: u8, one: u8, zero: u8) -> u32
     (two as u32) * 65536 + (one as u32) * 256 + (zero as u32)
 }
 
-// A data slot: byte 1, byte 0, and the word put together. Byte 1 is read with and without DMA.
+// The data of a sprite with DMA: byte 1, byte 0, and the word put together.
+fn data_on(
+    pointers: &[u8],
+    bytes: &mut [u8],
+    words: &mut [u32],
+    k: usize,
+    mc: u8,
+    ram: &[u8],
+    rom: &[u8],
+    bank: u8,
+) -> Spots
+    requires { ⌜ (length (now pointers) ≡ 8) × (length (now bytes) ≡ 24) × (length (now words) ≡ 8) ⌝ ∗ ⌜ k < 8 ⌝ ∗ ⌜ Lent (now ram) (now rom) ⌝ }
+    ensures { λ r. ⌜ r ≡ dataSpots (now (pointers .entry)) k true mc (now (ram .entry)) (now (rom .entry)) bank ⌝ ∗ ⌜ now (bytes .exit) ≡ dataAfter (now (pointers .entry)) (now (bytes .entry)) k true mc false (now (ram .entry)) (now (rom .entry)) bank ⌝ ∗ ⌜ now (words .exit) ≡ wordsAfter (now (pointers .entry)) (now (bytes .entry)) (now (words .entry)) k true mc false (now (ram .entry)) (now (rom .entry)) bank ⌝ }
+{
+    let pointer = pointers[k];
+    let first = memory::read(ram, rom, bank, byte_address(true, pointer, mc));
+    let second = memory::read(ram, rom, bank, byte_address(true, pointer, mc % 64 + 1));
+    let one = first.byte;
+    let zero = second.byte;
+    let at = k * 3;
+    let two = bytes[at + 2];
+    bytes[at] = zero;
+    bytes[at + 1] = one;
+    words[k] = word_of(two, one, zero);
+    Spots {
+        first: first.address,
+        second: second.address,
+    }
+}
+
+// Of one without, which reads at the idle address: byte 1 whatever AEC is.
+fn data_off(
+    bytes: &mut [u8],
+    words: &mut [u32],
+    k: usize,
+    low: bool,
+    ram: &[u8],
+    rom: &[u8],
+    bank: u8,
+) -> Spots
+    requires { ⌜ (length (now bytes) ≡ 24) × (length (now words) ≡ 8) ⌝ ∗ ⌜ k < 8 ⌝ ∗ ⌜ Lent (now ram) (now rom) ⌝ }
+    ensures { λ r. ⌜ r ≡ dataSpots [] k false 0 (now (ram .entry)) (now (rom .entry)) bank ⌝ ∗ ⌜ now (bytes .exit) ≡ dataAfter [] (now (bytes .entry)) k false 0 low (now (ram .entry)) (now (rom .entry)) bank ⌝ ∗ ⌜ now (words .exit) ≡ wordsAfter [] (now (bytes .entry)) (now (words .entry)) k false 0 low (now (ram .entry)) (now (rom .entry)) bank ⌝ }
+{
+    let data = memory::read(ram, rom, bank, 0x3FFF);
+    let one = data.byte;
+    let zero = or_open(low, data.byte);
+    let at = k * 3;
+    let two = bytes[at + 2];
+    bytes[at] = zero;
+    bytes[at + 1] = one;
+    words[k] = word_of(two, one, zero);
+    Spots {
+        first: data.address,
+        second: data.address,
+    }
+}
+
+// A data slot. Byte 1 is read with and without DMA.
 pub fn data_slot(
     pointers: &[u8],
     bytes: &mut [u8],
@@ -453,18 +561,8 @@ pub fn data_slot(
     requires { ⌜ (length (now pointers) ≡ 8) × (length (now bytes) ≡ 24) × (length (now words) ≡ 8) ⌝ ∗ ⌜ k < 8 ⌝ ∗ ⌜ Lent (now ram) (now rom) ⌝ }
     ensures { λ r. ⌜ r ≡ dataSpots (now (pointers .entry)) k on mc (now (ram .entry)) (now (rom .entry)) bank ⌝ ∗ ⌜ now (bytes .exit) ≡ dataAfter (now (pointers .entry)) (now (bytes .entry)) k on mc low (now (ram .entry)) (now (rom .entry)) bank ⌝ ∗ ⌜ now (words .exit) ≡ wordsAfter (now (pointers .entry)) (now (bytes .entry)) (now (words .entry)) k on mc low (now (ram .entry)) (now (rom .entry)) bank ⌝ }
 {
-    let pointer = pointers[k];
-    let first = memory::read(ram, rom, bank, byte_address(on, pointer, mc));
-    let second = memory::read(ram, rom, bank, byte_address(on, pointer, mc % 64 + 1));
-    let one = first.byte;
-    let zero = or_open(on | low, second.byte);
-    let at = k * 3;
-    let two = bytes[at + 2];
-    bytes[at] = zero;
-    bytes[at + 1] = one;
-    words[k] = word_of(two, one, zero);
-    Spots {
-        first: first.address,
-        second: second.address,
+    if on {
+        return data_on(pointers, bytes, words, k, mc, ram, rom, bank);
     }
+    data_off(bytes, words, k, low, ram, rom, bank)
 }

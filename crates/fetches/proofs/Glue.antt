@@ -6,7 +6,7 @@ use mathlib.Core.List.{List, map}
 use native.Mathlib.Omega.{arith}
 use borrow.Author.Tests.{eq-eqb, ne-eqb}
 use lib.Dec.{eqb}
-use lib.ListN.{length, length-map}
+use lib.ListN.{length, length-set, length-map}
 use Rattle.laws.specs.Bits.{hasBit}
 use Rattle.schedule.specs.Kind.{Kind, the6569, the6567R8, kindOf}
 use Rattle.sprites.specs.declared.Sprites.{Sprites}
@@ -21,16 +21,23 @@ use Rattle.fetches.proofs.Order.{early-slots, late-slots}
 pub unmapped : {X Y : Type 0} (f : X → Y) (l : List X) (n : ℕ) → length (map f l) ≡ n → length l ≡ n
 unmapped f l n e = sym (length-map l f) ∙ e
 
+pub eight-still : (p : List ℕ) (k ptrs : ℕ) (ram rom : List ℕ) (bank : ℕ) {p' : List ℕ} → p' ≡ pointersAfter p k ptrs ram rom bank → length p ≡ 8 → length p' ≡ 8
+unfolding pointersAfter
+eight-still p k ptrs ram rom bank e l = ap length e ∙ length-set p k _ ∙ l
+
 module _ (p b w : List ℕ) (k mc ptrs : ℕ) (ram rom : List ℕ) (bank : ℕ) where
-  pub paired : {m : ℕ} {p' b' b'' w' : List ℕ} (on x y : Bool)
+  pub paired : {on x y : Bool} {m : ℕ} {p' b' b'' w' : List ℕ} (dma low first second : ℕ)
+      → on ≡ hasBit dma k
+      → x ≡ hasBit low first
+      → y ≡ hasBit low second
       → m ≡ mcMoved on mc
       → p' ≡ pointersAfter p k ptrs ram rom bank
       → b' ≡ byteTwoAfter b k (eqb k 0) on mc x ptrs ram rom bank
       → b'' ≡ dataAfter p' b' k on m y ram rom bank
       → w' ≡ wordsAfter p' b' w k on m y ram rom bank
-      → latches p' b'' w' ≡ pairRead k on mc x y ptrs ram rom bank (latches p b w)
+      → latches p' b'' w' ≡ pairRead k (hasBit dma k) mc (hasBit low first) (hasBit low second) ptrs ram rom bank (latches p b w)
   unfolding pairRead pointingRead fetchingRead
-  paired on x y m p' b' b'' w' = simp (b'', w', b', p', m)
+  paired dma low first second on x y m p' b' b'' w' = simp (b'', w', b', p', m, on, x, y)
 
   pub fetching-alone : {on y : Bool} {b' w' : List ℕ} (dma low second : ℕ)
       → on ≡ hasBit dma k
@@ -47,16 +54,6 @@ module _ (p b w : List ℕ) (k mc ptrs : ℕ) (ram rom : List ℕ) (bank : ℕ) 
       → latches p' b' w ≡ pointingRead k on mc x ptrs ram rom bank (latches p b w)
   unfolding pointingRead
   pointing-alone on x p' b' = simp (p', b')
-
--- the two ways of a pair, each for its constant, by the bits that chose it
-pub pair-by : {on v x y : Bool} (k dma mc low first second ptrs : ℕ) (ram rom : List ℕ) (bank : ℕ) (l : Latches) {r : Latches}
-    → on ≡ v
-    → on ≡ hasBit dma k
-    → x ≡ hasBit low first
-    → y ≡ hasBit low second
-    → r ≡ pairRead k v mc x y ptrs ram rom bank l
-    → r ≡ pairRead k (hasBit dma k) mc (hasBit low first) (hasBit low second) ptrs ram rom bank l
-pair-by k dma mc low first second ptrs ram rom bank l v on x y r = simp (r, ← v, on, x, y)
 
 module _ (s : Sprites) (low a ptrs : ℕ) (ram rom : List ℕ) (bank : ℕ) (l : Latches) {m r : Latches} where
   pub four-five : m ≡ spriteRead s low 4 2 a ptrs ram rom bank l → r ≡ spriteRead s low 5 (a + 1) (a + 2) ptrs ram rom bank m → r ≡ fourFive s low a ptrs ram rom bank l

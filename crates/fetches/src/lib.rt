@@ -1,6 +1,6 @@
 // The sprites' slots of a whole line: what they fetch, slot after slot in the kind's order.
 ghost use mathlib.Core.Path.{_≡_};
-ghost use mathlib.Core.Bool.{true, false};
+ghost use mathlib.Core.Bool.{false};
 ghost use mathlib.Core.List.{List};
 ghost use Prim.Native.Nat.{ℕ, _<_};
 ghost use lib.ListN.{length};
@@ -31,73 +31,6 @@ fn moved(on: bool, mc: u8) -> u8
     mc
 }
 
-// Both slots of a sprite with DMA: a function of its own, so that the bit is a constant in each slot.
-fn pair_on(
-    pointers: &mut [u8],
-    bytes: &mut [u8],
-    words: &mut [u32],
-    k: usize,
-    mc: u8,
-    early: bool,
-    late: bool,
-    ptrs: u8,
-    ram: &[u8],
-    rom: &[u8],
-    bank: u8,
-)
-    requires { ⌜ (length (now pointers) ≡ 8) × (length (now bytes) ≡ 24) × (length (now words) ≡ 8) ⌝ ∗ ⌜ k < 8 ⌝ ∗ ⌜ Lent (now ram) (now rom) ⌝ }
-    ensures { λ _. ⌜ latches (now (pointers .exit)) (now (bytes .exit)) (now (words .exit)) ≡ pairRead k true mc early late ptrs (now (ram .entry)) (now (rom .entry)) bank (latches (now (pointers .entry)) (now (bytes .entry)) (now (words .entry))) ⌝ }
-{
-    let next = moved(true, mc);
-    access::pointer_slot(
-        pointers,
-        bytes,
-        k,
-        k == 0,
-        true,
-        mc,
-        early,
-        ptrs,
-        ram,
-        rom,
-        bank,
-    );
-    access::data_slot(pointers, bytes, words, k, true, next, late, ram, rom, bank);
-}
-
-// Both slots of a sprite without DMA, whose MC stays.
-fn pair_off(
-    pointers: &mut [u8],
-    bytes: &mut [u8],
-    words: &mut [u32],
-    k: usize,
-    mc: u8,
-    early: bool,
-    late: bool,
-    ptrs: u8,
-    ram: &[u8],
-    rom: &[u8],
-    bank: u8,
-)
-    requires { ⌜ (length (now pointers) ≡ 8) × (length (now bytes) ≡ 24) × (length (now words) ≡ 8) ⌝ ∗ ⌜ k < 8 ⌝ ∗ ⌜ Lent (now ram) (now rom) ⌝ }
-    ensures { λ _. ⌜ latches (now (pointers .exit)) (now (bytes .exit)) (now (words .exit)) ≡ pairRead k false mc early late ptrs (now (ram .entry)) (now (rom .entry)) bank (latches (now (pointers .entry)) (now (bytes .entry)) (now (words .entry))) ⌝ }
-{
-    access::pointer_slot(
-        pointers,
-        bytes,
-        k,
-        k == 0,
-        false,
-        mc,
-        early,
-        ptrs,
-        ram,
-        rom,
-        bank,
-    );
-    access::data_slot(pointers, bytes, words, k, false, mc, late, ram, rom, bank);
-}
-
 // Both slots of sprite k; AEC for the one is bit `first`, for the other bit `second`.
 fn pair(
     pointers: &mut [u8],
@@ -120,35 +53,21 @@ fn pair(
     let on = laws::has_bit(dma, k);
     let early = is_set(low, first);
     let late = is_set(low, second);
-    if on {
-        pair_on(
-            pointers,
-            bytes,
-            words,
-            k,
-            mc,
-            early,
-            late,
-            ptrs,
-            ram,
-            rom,
-            bank,
-        );
-    } else {
-        pair_off(
-            pointers,
-            bytes,
-            words,
-            k,
-            mc,
-            early,
-            late,
-            ptrs,
-            ram,
-            rom,
-            bank,
-        );
-    }
+    let next = moved(on, mc);
+    access::pointer_slot(
+        pointers,
+        bytes,
+        k,
+        k == 0,
+        on,
+        mc,
+        early,
+        ptrs,
+        ram,
+        rom,
+        bank,
+    );
+    access::data_slot(pointers, bytes, words, k, on, next, late, ram, rom, bank);
 }
 
 // Sprite 3's pointer slot alone: on the 6567R8 its data slot is in the next line.

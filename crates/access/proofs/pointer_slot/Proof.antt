@@ -24,23 +24,8 @@ read-requires c κs = search needs
 slice-write-pointers : tie.Need-slice-write-pointers
 slice-write-pointers c = search needs
 
-byte-address-requires : tie.Need-byte-address-requires
-byte-address-requires c κs = search needs
-
-read-requires-2 : tie.Need-read-requires-2
-read-requires-2 c κs = search needs
-
-or-open-requires : tie.Need-or-open-requires
-or-open-requires c κs = search needs
-
-mul-bytes : tie.Need-mul-bytes
-mul-bytes c = search needs
-
-add-bytes : tie.Need-add-bytes
-add-bytes c = search needs
-
-slice-write-bytes : tie.Need-slice-write-bytes
-slice-write-bytes c = search needs
+byte-two-requires : tie.Need-byte-two-requires
+byte-two-requires c κs = search needs
 
 same-length : tie.Need-same-length
 same-length c = search needs
@@ -51,11 +36,10 @@ same-length-2 c = search needs
 returns : tie.Need-returns
 unfolding pointerSpots pointersAfter byteTwoAfter
 returns c =
-    let q = c .before .read2 .ensures in
-    let r = c .before .before .byte-address .ensures in
-    let s = c .before .before .before .read .ensures in
-    let t = c .before .before .before .before .wide .ensures in
-    (simp (q, r, s, t), (simp (s, t), simp (c .or-open .ensures, q, r, s, t)))
+    let g = c .before .before .byte-two .ensures in
+    let s = c .before .before .before .before .read .ensures in
+    let t = c .before .before .before .before .before .wide .ensures in
+    (simp (g .0, s, t), (simp (s, t), simp (g .1, s, t)))
 
 pub pointer-slot-spec : {M : Type 1} → statement M
 pointer-slot-spec =
@@ -68,12 +52,7 @@ pointer-slot-spec =
     add-read-2
     read-requires
     slice-write-pointers
-    byte-address-requires
-    read-requires-2
-    or-open-requires
-    mul-bytes
-    add-bytes
-    slice-write-bytes
+    byte-two-requires
     same-length
     same-length-2
     returns)

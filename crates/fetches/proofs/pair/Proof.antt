@@ -1,4 +1,4 @@
-use Rattle.fetches.proofs.Glue.{pair-by}
+use Rattle.fetches.proofs.Glue.{paired, eight-still}
 use borrow.Author.Needs.{needs}
 use Rattle.fetches.proofs.pair.Statement.{statement}
 use Rattle.fetches.proofs.pair.Tie as tie
@@ -12,11 +12,14 @@ is-set-requires c κs = search needs
 is-set-requires-2 : tie.Need-is-set-requires-2
 is-set-requires-2 c κs = search needs
 
-pair-on-requires : tie.Need-pair-on-requires
-pair-on-requires c κs = search needs
+moved-requires : tie.Need-moved-requires
+moved-requires c κs = search needs
 
-pair-off-requires : tie.Need-pair-off-requires
-pair-off-requires c κs = search needs
+pointer-slot-requires : tie.Need-pointer-slot-requires
+pointer-slot-requires c κs = search needs
+
+data-slot-requires : tie.Need-data-slot-requires
+data-slot-requires c κs = let e = c .before .before .before .before .before .before .before .pointer-slot .ensures in let p = c .before .before .before .before .before .before .before .before .before .before .before .before .before .before .before .before .before .before .before .pre in ((eight-still _ _ _ _ _ _ (e .1 .0) (p .0 .0), search needs, p .0 .2), (p .1 .0 .0, p .1 .1))
 
 same-length : tie.Need-same-length
 same-length c = search needs
@@ -28,19 +31,7 @@ same-length-3 : tie.Need-same-length-3
 same-length-3 c = search needs
 
 returns : tie.Need-returns
-returns c = pair-by _ _ _ _ _ _ _ _ _ _ _ (c .before .before .before .before .before .before .before .before .before .before .if1 .taken) (c .before .before .before .before .before .before .before .before .before .before .before .before .before .has-bit .ensures) (c .before .before .before .before .before .before .before .before .before .before .before .before .is-set .ensures) (c .before .before .before .before .before .before .before .before .before .before .before .is-set2 .ensures) (c .before .before .before .before .before .before .pair-on .ensures)
-
-same-length-4 : tie.Need-same-length-4
-same-length-4 c = search needs
-
-same-length-5 : tie.Need-same-length-5
-same-length-5 c = search needs
-
-same-length-6 : tie.Need-same-length-6
-same-length-6 c = search needs
-
-returns-2 : tie.Need-returns-2
-returns-2 c = pair-by _ _ _ _ _ _ _ _ _ _ _ (c .before .before .before .before .before .before .before .before .before .before .if1 .left) (c .before .before .before .before .before .before .before .before .before .before .before .before .before .has-bit .ensures) (c .before .before .before .before .before .before .before .before .before .before .before .before .is-set .ensures) (c .before .before .before .before .before .before .before .before .before .before .before .is-set2 .ensures) (c .before .before .before .before .before .before .pair-off .ensures)
+returns c = let e = c .before .before .before .before .before .before .before .before .before .before .before .before .pointer-slot .ensures in let g = c .before .before .before .before .data-slot .ensures in paired _ _ _ _ _ _ _ _ _ _ _ _ _ (c .before .before .before .before .before .before .before .before .before .before .before .before .before .before .before .before .before .before .has-bit .ensures) (c .before .before .before .before .before .before .before .before .before .before .before .before .before .before .before .before .before .is-set .ensures) (c .before .before .before .before .before .before .before .before .before .before .before .before .before .before .before .before .is-set2 .ensures) (c .before .before .before .before .before .before .before .before .before .before .before .before .before .before .before .moved .ensures) (e .1 .0) (e .1 .1) (g .1 .0) (g .1 .1)
 
 pub pair-spec : {M : Type 1} → statement M
 pair-spec =
@@ -49,13 +40,10 @@ pair-spec =
     has-bit-requires
     is-set-requires
     is-set-requires-2
-    pair-on-requires
-    pair-off-requires
+    moved-requires
+    pointer-slot-requires
+    data-slot-requires
     same-length
     same-length-2
     same-length-3
-    returns
-    same-length-4
-    same-length-5
-    same-length-6
-    returns-2)
+    returns)
