@@ -1,4 +1,4 @@
--- What a tick and a run report of their reads: at most two, and none where they are refused; the reasons are the timing side's. Assumes nothing.
+-- What a tick and a run report of their reads: one or two, and none where they are refused; the reasons are the timing side's. Assumes nothing.
 use Prim.Native.Nat.{ℕ, zero, suc, _≤_}
 use mathlib.Core.Path.{_≡_, refl, sym, ap, _∙_}
 use mathlib.Core.Bool.{Bool, true, false, cond}
@@ -9,7 +9,7 @@ use borrow.Author.Tests.{ne-eqb, eqb-true}
 use Rattle.laws.proofs.Choice.{by-test}
 use Rattle.schedule.specs.Kind.{kindOf}
 use Rattle.schedule.specs.Reads.{Access, Seen, reasonOf, accesses}
-use Rattle.schedule.proofs.Accesses.{at-most-two}
+use Rattle.schedule.proofs.Accesses.{at-most-two, at-least-one}
 use Rattle.memory.specs.Lent.{Host, lentRefusal}
 use Rattle.registers.specs.declared.Registers.{Registers}
 use Rattle.registers.specs.Control.{modeNumber, timed}
@@ -26,12 +26,18 @@ use Rattle.chip.proofs.Level.{Level}
 use Rattle.world.specs.World.{World, worldOf}
 use Rattle.world.specs.Tick.{tickReads}
 use Rattle.sequencer.specs.Tick.{tickable, tickRefusal, ticked, ticksFrom}
+use Rattle.sequencer.proofs.Ordered.{follows}
 use Rattle.sequencer.proofs.Sides.{tick-taken, tick-late}
 
 -- 02 (viii): at most two
 pub reads-at-most-two : (h : Host) (g : Registers) (w : World) → length (tickReads h g w) ≤ 2
 unfolding tickReads readsBy
 reads-at-most-two h g w = rw length-map (at-most-two (kindOf (w .side .beam .kind)) _ _)
+
+-- 02 (xiv): and at least one
+pub reads-at-least-one : (h : Host) (g : Registers) (w : World) → 1 ≤ length (tickReads h g w)
+unfolding tickReads readsBy
+reads-at-least-one h g w = rw length-map (at-least-one (kindOf (w .side .beam .kind)) _ _ (follows (timed g) (w .side) .line))
 
 -- 02 (viii): a refused tick reports none
 pub refused-reads-none : (h : Host) (c : Chip) → (tickRefusal h c ≡ 0 → ⊥) → ticked h c .reads ≡ told []

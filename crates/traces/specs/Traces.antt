@@ -60,6 +60,10 @@ abbrev pub rising : ℕ → ℕ → ℕ → List (ℕ × ℕ)
 rising zero c v = []
 rising (suc n) c v = (c, v) ∷ rising n (c + 1) (v + 1)
 
+abbrev pub falling : ℕ → ℕ → ℕ → List (ℕ × ℕ)
+falling zero c v = []
+falling (suc n) c v = (c, v) ∷ falling n (c + 1) (v - 1)
+
 -- from cycle a to cycle e the value v
 abbrev pub holds : {A : Type 0} → ℕ → ℕ → A → List (ℕ × A)
 holds a e v = staying (e + 1 - a) a v
@@ -67,6 +71,10 @@ holds a e v = staying (e + 1 - a) a v
 -- from cycle a to cycle e the values v, v + 1, v + 2 ..
 abbrev pub counts : ℕ → ℕ → ℕ → List (ℕ × ℕ)
 counts a e v = rising (e + 1 - a) a v
+
+-- from cycle a to cycle e the values v, v − 1, v − 2 ..
+abbrev pub countsDown : ℕ → ℕ → ℕ → List (ℕ × ℕ)
+countsDown a e v = falling (e + 1 - a) a v
 
 -- BA and AEC
 abbrev pub low : Bool
@@ -125,6 +133,10 @@ flagsOf sides = column (λ s. s .irq .flags) sides
 
 abbrev pub latchOf : List Side → List (ℕ × Bool)
 latchOf sides = column (λ s. s .beam .latch) sides
+
+-- the refresh counter
+abbrev pub refreshOf : List Side → List (ℕ × ℕ)
+refreshOf sides = column (λ s. s .refresh) sides
 
 -- BA and AEC; the vertical and the main border flip-flop
 abbrev pub busOf : List Side → List (ℕ × (Bool × Bool))
@@ -286,6 +298,21 @@ pub record TracesOf (before : ℕ → Side) : Type 0 where
       latchOf (lines 1 (before 312)) ≡
       holds 1 1 on
       ++ holds 2 63 off  -- Bauer 3.5: once a frame; DIFFERENCES 8: in cycle 2
+  -- Lines 50 and 51, and line 0 of the second frame: the refresh counter
+  pub refresh-51 :
+      refreshOf (lines 2 (before 50)) ≡
+      holds 1 10 5
+      ++ countsDown 11 15 4  -- Bauer 3.13: one less after each of the five r-accesses
+      ++ holds 16 63 0
+      ++ holds 1 10 0
+      ++ countsDown 11 15 0xFF  -- 02 (xiv): 0 is followed by 0xFF
+      ++ holds 16 63 0xFB
+  pub refresh-312 :
+      refreshOf (lines 1 (before 312)) ≡
+      holds 1 1 0xE7
+      ++ holds 2 10 0xFF  -- Bauer 3.13: once a frame; 02 (xiv): in cycle 2
+      ++ countsDown 11 15 0xFE
+      ++ holds 16 63 0xFA
 
 abbrev pub Traces : Type 0
 Traces = TracesOf fromPowerUp
