@@ -6,7 +6,7 @@ use crate::memory::Memory;
 use crate::model::Model;
 use crate::replay::*;
 use crate::rng::Rng;
-use crate::scene::{fields, flag_at, Sort, State, HEAD, SCENE, WITHOUT_KIND, WITHOUT_LOST};
+use crate::scene::{fields, flag_at, Sort, State, HEAD, SCENE, WITHOUT_KIND, WITHOUT_LOST, WITHOUT_REFRESH};
 use crate::states::*;
 use crate::vic::glue::Machine;
 use crate::walk::Walker;
@@ -262,9 +262,9 @@ fn all_ends() -> Vec<End> {
         Sort::Zero => Some(End::Past(6 + field.offset, 1, 255)),
     }));
     all.extend((0..HEAD.len()).map(End::Head));
-    let own = [(1, WITHOUT_KIND), (2, WITHOUT_LOST), (3, WITHOUT_LOST)];
+    let own = [(1, WITHOUT_KIND), (2, WITHOUT_LOST), (3, WITHOUT_LOST), (4, WITHOUT_REFRESH)];
     all.extend(own.map(|(version, length)| End::Version(version, length)));
-    all.extend([1, 2, 3, 5].map(|version| End::Version(version, SCENE)));
+    all.extend([1, 2, 3, 4, 6].map(|version| End::Version(version, SCENE)));
     all.extend([End::Flagged, End::Cut]);
     all
 }

@@ -243,9 +243,10 @@ fn shifted(seed: u64, count: u64) -> bool {
         as_6569.lost = state.lost.min(as_6569.cycle as u8);
         let (mut told, mut after) = answer(&mut judges.original, &as_6569, bank);
         after.lost += state.lost - as_6569.lost;
-        // The refresh of a 6569 in 11, of which nothing is told; here a cycle that has nothing to do.
+        // The refresh of a 6569 in 11; here a cycle that has nothing to do.
         if NTSC.next(cycle) == 10 {
             told = told.map(|_| Reads::of(&[(Reason::Idle, 0x3FFF)]));
+            after.refresh = state.refresh;
         }
         (after.kind, after.top, after.bottom) = (state.kind, state.top, state.bottom);
         after.cycle = if told.is_ok() { NTSC.next(cycle) } else { cycle };

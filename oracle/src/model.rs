@@ -11,8 +11,8 @@ use crate::kind::{column, Column, Slot};
 use crate::memory::constants::MapRegion;
 use crate::memory::{Memory, Phi1Mode};
 use crate::pla::map_vic_addr;
-use crate::reads::{Reads, Reason};
-use crate::scene::State;
+use crate::reads::{Reads, Reason, REFRESH};
+use crate::scene::{State, FIRST_REFRESH};
 
 const DEN: u8 = 0x10;
 const RSEL: u8 = 0x08;
@@ -75,6 +75,7 @@ impl Model {
         if after {
             self.slot(column);
         }
+        self.refresh();
         self.rows();
         self.hole();
         let s = &mut self.s;
@@ -130,10 +131,17 @@ impl Model {
         }
     }
 
-    /// 02 (viii) and (xiv): phase 1 is the chip's own in every cycle. Where no other access has it, and the refresh of 11 to 15 has not, it
-    /// reads for nothing. A slot always reads.
+    /// 02 (xiv), and 3.13: five accesses a line, in phase 1, before the matrix access of 15. The byte goes nowhere.
+    fn refresh(&mut self) {
+        if (11..=15).contains(&self.s.cycle) {
+            self.read(Reason::Refresh, REFRESH + u16::from(self.s.refresh));
+            self.s.refresh = self.s.refresh.wrapping_sub(1);
+        }
+    }
+
+    /// 02 (viii): phase 1 is the chip's own in every cycle. Where no other access has it, it reads for nothing. A slot always reads.
     fn hole(&mut self) {
-        if self.reads.is_empty() && !(11..=15).contains(&self.s.cycle) {
+        if self.reads.is_empty() {
             self.read(Reason::Idle, IDLE);
         }
     }
@@ -254,6 +262,7 @@ pub fn powered(kind: u8) -> State {
     (s.top, s.bottom) = compares(0);
     s.flip = 0xFF;
     s.aec_counter = 3;
+    s.refresh = FIRST_REFRESH;
     for (k, sprite) in s.sprites.iter_mut().enumerate() {
         sprite.number = k as u8;
     }
@@ -289,6 +298,7 @@ fn frame_ends(s: &mut State) {
         s.raster = 0;
         s.den_latch = false;
         s.vc_base = 0;
+        s.refresh = FIRST_REFRESH;
         if s.compare == 0 {
             raise(s);
         }

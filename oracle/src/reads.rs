@@ -10,6 +10,8 @@ use crate::scene::State;
 pub const LINES: u16 = 0x3FFF;
 /// Where a chip reads that has nothing to read.
 const IDLE: u16 = 0x3FFF;
+/// Where refresh reads, with the counter below it (02 (xiv)).
+pub const REFRESH: u16 = 0x3F00;
 /// Where an idle access of the display may read besides.
 const IDLE_TOO: [u16; 2] = [0x39FF, 0x38FF];
 
@@ -21,6 +23,7 @@ pub enum Reason {
     Matrix = 3,
     Graphics = 4,
     Idle = 5,
+    Refresh = 6,
 }
 
 impl Reason {
@@ -31,6 +34,7 @@ impl Reason {
             Reason::Matrix => "matrix",
             Reason::Graphics => "graphics",
             Reason::Idle => "idle",
+            Reason::Refresh => "refresh",
         }
     }
 }
@@ -119,8 +123,8 @@ fn reasons(before: Before, s: &State) -> Vec<Reason> {
         (Some(Slot::Pointer(_)), _) => (Some(Reason::Pointer), idle_if(aec_low)),
         (Some(Slot::Data(k)), _) if on(k) => (Some(Reason::Sprite), Some(Reason::Sprite)),
         (Some(Slot::Data(_)), _) => (Some(Reason::Idle), idle_if(aec_low)),
-        (None, 11..=14) => (None, None),
-        (None, 15) => (matrix, None),
+        (None, 11..=14) => (Some(Reason::Refresh), None),
+        (None, 15) => (Some(Reason::Refresh), matrix),
         (None, 16..=54) => (Some(graphics), matrix),
         (None, 55) => (Some(graphics), None),
         (None, _) => (Some(Reason::Idle), None),
@@ -140,6 +144,8 @@ fn fits((reason, address): Read, left: u16, s: &State) -> bool {
             address == u16::from(sprite.pointer) * 64 + (u16::from(sprite.mc) + 63 - left) % 64
         }
         (Reason::Matrix, None) => address == matrix + s.vc,
+        // The counter is one less since.
+        (Reason::Refresh, None) => address == REFRESH + u16::from(s.refresh.wrapping_add(1)),
         (Reason::Graphics, None) => true,
         (Reason::Idle, None) if (16..=55).contains(&s.cycle) => address == IDLE || IDLE_TOO.contains(&address),
         (Reason::Idle, _) => address == IDLE,

@@ -184,7 +184,7 @@ pub fn perform(chip: &mut dyn Chip, case: &Case) -> Result<u16, Refusal> {
     }
 }
 
-/// The 319 bytes that a case is answered with.
+/// The 320 bytes that a case is answered with.
 pub fn answer_case(chip: &mut dyn Chip, case: &Case) -> [u8; ANSWER] {
     let (refusal, value) = match perform(chip, case) {
         Ok(value) => (0, value),

@@ -1,15 +1,18 @@
-//! A chip state in plain numbers, and its 310 bytes (docs/FORMATS.md, "Scene"). `decode` takes the newest version alone, as `replay`
+//! A chip state in plain numbers, and its 311 bytes (docs/FORMATS.md, "Scene"). `decode` takes the newest version alone, as `replay`
 //! does; `renewed` makes it of an older one.
 
 use crate::kind::MOS6569;
 
-pub const SCENE: usize = 310;
-pub const HEAD: [u8; 4] = [b'N', b'P', b'S', 4];
+pub const SCENE: usize = 311;
+pub const HEAD: [u8; 4] = [b'N', b'P', b'S', 5];
 /// Where the version stands.
 const VERSION: usize = 3;
-/// Versions 2 and 3 end before the lost cycles, version 1 before the kind too.
-pub const WITHOUT_LOST: usize = SCENE - 1;
-pub const WITHOUT_KIND: usize = SCENE - 2;
+/// Version 4 ends before the refresh counter, versions 2 and 3 before the lost cycles too, version 1 before the kind too.
+pub const WITHOUT_REFRESH: usize = SCENE - 1;
+pub const WITHOUT_LOST: usize = SCENE - 2;
+pub const WITHOUT_KIND: usize = SCENE - 3;
+/// What the refresh counter begins with, at power-up and after a frame's end (02 (xiv)).
+pub const FIRST_REFRESH: u8 = 0xFF;
 /// Where the sprites of a scene begin, the bytes of each, and where in them versions 1 and 2 have a flag of DMA (02 (ix)).
 const SPRITES: usize = 75;
 const SPRITE: usize = 12;
@@ -117,6 +120,7 @@ pub struct State {
     pub pending: Option<u8>,
     pub kind: u8,
     pub lost: u8,
+    pub refresh: u8,
 }
 
 /// A field's name in two parts, so that no text is built while states are read and written.
@@ -240,6 +244,7 @@ impl State {
         v.place(plain("pending place"), &mut self.pending);
         v.byte(plain("kind"), &mut self.kind);
         v.byte(plain("lost cycles"), &mut self.lost);
+        v.byte(plain("refresh counter"), &mut self.refresh);
     }
 
     pub fn encode(&self) -> [u8; SCENE] {
@@ -269,7 +274,7 @@ pub fn flag_at(k: usize) -> usize {
 
 /// The bytes of an older scene as the newest version has them; any other bytes are themselves. Version 1 has no kind and gets the 6569's.
 /// Up to version 2 each sprite has a flag: 0 or 1, or it is no scene; what it says is not looked at, since the mask decides (02 (ix)).
-/// Up to version 3 the lost cycles are not told, and are 0 (02 (xi)).
+/// Up to version 3 the lost cycles are not told, and are 0 (02 (xi)); up to version 4 the refresh counter is not, and is 0xFF (02 (xiv)).
 pub fn renewed(bytes: &[u8]) -> Vec<u8> {
     let mut bytes = bytes.to_vec();
     if bytes.len() == WITHOUT_KIND && bytes[VERSION] == 1 {
@@ -283,6 +288,10 @@ pub fn renewed(bytes: &[u8]) -> Vec<u8> {
     if bytes.len() == WITHOUT_LOST && bytes[VERSION] == 3 {
         bytes.push(0);
         bytes[VERSION] = 4;
+    }
+    if bytes.len() == WITHOUT_REFRESH && bytes[VERSION] == 4 {
+        bytes.push(FIRST_REFRESH);
+        bytes[VERSION] = 5;
     }
     bytes
 }

@@ -13,7 +13,7 @@ use crate::model::{powered, Model};
 use crate::reads::{Reads, Reason};
 use crate::replay::{answer_case, Case, AFTER, CYCLES_LOST, LATE_BYTE, LINE, OTHERS, READS, TICK, TICKS};
 use crate::rng::Rng;
-use crate::scene::{fields, flag_at, renewed, Sort, State, SCENE, WITHOUT_KIND, WITHOUT_LOST};
+use crate::scene::{fields, flag_at, renewed, Sort, State, SCENE, WITHOUT_KIND, WITHOUT_LOST, WITHOUT_REFRESH};
 use crate::states::{accepted_state, wild_state};
 use crate::vic::fsm::{DisplayState, GraphicsMode};
 use crate::vic::glue::Machine;
@@ -42,6 +42,7 @@ const CHECKS: &[Check] = &[
     ("what a tick reads: answers, and the text of bus", the_told_reads),
     ("what a tick reads: the 6567R8", the_reads_of_the_6567r8),
     ("cycles lost on a line", the_lost_cycles),
+    ("refresh, and its counter", the_refresh),
     ("a line, a run of ticks, and what refuses them", the_lines),
     ("the 6567R8: its line, its frame and its slots", the_column),
     ("the 6567R8: power-up, and what is refused", the_kinds),
@@ -75,7 +76,8 @@ fn scenes_keep_their_bytes() -> bool {
         // Any number is a kind in a scene.
         state.kind = number;
         let bytes = state.encode();
-        (bytes[308], bytes[309]) == (number, state.lost) && State::decode(&bytes).is_some_and(|again| again == state && again.encode() == bytes)
+        (bytes[308], bytes[309], bytes[310]) == (number, state.lost, state.refresh)
+            && State::decode(&bytes).is_some_and(|again| again == state && again.encode() == bytes)
     })
 }
 
@@ -112,27 +114,32 @@ fn older(state: &State, version: u8, flags: [u8; 8]) -> Vec<u8> {
     bytes.truncate(match version {
         1 => WITHOUT_KIND,
         2 | 3 => WITHOUT_LOST,
+        4 => WITHOUT_REFRESH,
         _ => SCENE,
     });
     bytes
 }
 
-/// docs/FORMATS.md, "Scene": versions 1 and 2 are brought in with the mask, whatever their flags say, and a flag is 0 or 1. Every older
-/// one has lost no cycle.
+/// docs/FORMATS.md, "Scene": versions 1 and 2 are brought in with the mask, whatever their flags say, and a flag is 0 or 1. Up to
+/// version 3 a scene has lost no cycle, and every older one has the refresh counter that a frame begins with.
 fn older_scenes() -> bool {
     let mut r = Rng::new(5);
     let read = |bytes: &[u8]| State::decode(&renewed(bytes));
     let brought = (0..20_000).all(|_| {
-        let state = State { lost: 0, ..any_state(&mut r, MOS6569) };
+        let state = State { refresh: 0xFF, ..any_state(&mut r, MOS6569) };
+        let fourth = read(&older(&state, 4, [0; 8])).as_ref() == Some(&state);
+        let state = State { lost: 0, ..state };
         let flags = r.byte();
         let flags: [u8; 8] = std::array::from_fn(|k| flags >> k & 1);
         // One flag is none.
         let mut wrong = flags;
         wrong[r.below(8) as usize] = r.within(2, 255) as u8;
-        [1, 2].iter().all(|version| {
-            let flagged = older(&state, *version, flags);
-            State::decode(&flagged).is_none() && read(&flagged).as_ref() == Some(&state) && read(&older(&state, *version, wrong)).is_none()
-        }) && read(&older(&state, 3, [0; 8])).as_ref() == Some(&state)
+        fourth
+            && [1, 2].iter().all(|version| {
+                let flagged = older(&state, *version, flags);
+                State::decode(&flagged).is_none() && read(&flagged).as_ref() == Some(&state) && read(&older(&state, *version, wrong)).is_none()
+            })
+            && read(&older(&state, 3, [0; 8])).as_ref() == Some(&state)
             && renewed(&state.encode()) == state.encode()
     });
     // Each flag with the least value that is none.
@@ -143,10 +150,12 @@ fn older_scenes() -> bool {
     let second = older(&state, 2, [0, 1, 0, 1, 0, 1, 0, 1]);
     let kept = read(&second).as_ref() == Some(&state);
     let third = older(&state, 3, [0; 8]);
-    let length = [&second, &third, &older(&state, 1, [0; 8])].iter().all(|old| read(&old[..old.len() - 1]).is_none() && read(&[&old[..], &[0]].concat()).is_none());
+    let length = [&second, &third, &older(&state, 1, [0; 8]), &older(&state, 4, [0; 8])]
+        .iter()
+        .all(|old| read(&old[..old.len() - 1]).is_none() && read(&[&old[..], &[0]].concat()).is_none());
     let places = (0..8).map(flag_at).collect::<Vec<usize>>() == [79, 91, 103, 115, 127, 139, 151, 163];
-    let newest = (0..8).all(|k| [3, 4].iter().all(|version| read(&older(&state, *version, std::array::from_fn(|n| u8::from(n == k)))).is_none()))
-        && [0, 5].iter().all(|version| read(&older(&state, *version, [0; 8])).is_none());
+    let newest = (0..8).all(|k| [3, 4, 5].iter().all(|version| read(&older(&state, *version, std::array::from_fn(|n| u8::from(n == k)))).is_none()))
+        && [0, 6].iter().all(|version| read(&older(&state, *version, [0; 8])).is_none());
     brought && two && kept && length && places && newest && [&[][..], &[78, 80, 83], &[78, 80, 83, 1]].iter().all(|bytes| renewed(bytes) == *bytes)
 }
 
@@ -174,6 +183,7 @@ fn power_up() -> bool {
     expected.bottom = 0xF7;
     expected.flip = 0xFF;
     expected.aec_counter = 3;
+    expected.refresh = 0xFF;
     for (k, sprite) in expected.sprites.iter_mut().enumerate() {
         sprite.number = k as u8;
     }
@@ -576,14 +586,16 @@ const READ: &[(u16, Change, &[(Reason, u16)])] = &[
     (3, aec_low, &[(Reason::Pointer, 0x07FC), (Reason::Idle, 0x3FFF)]),
     (1, |s| (s.dma, s.aec_counter) = (0x10, 0), &[(Reason::Pointer, 0x07FB), (Reason::Idle, 0x3FFF)]),
     (3, |s| (s.dma, s.aec_counter) = (0x20, 0), &[(Reason::Pointer, 0x07FC)]),
-    // Refresh is not told yet.
-    (11, aec_low, &[]),
-    (14, |s| s.dma = 0xFF, &[]),
-    (15, |_| {}, &[]),
+    // Refresh, whatever AEC is, and the counter below 0x3F00.
+    (11, aec_low, &[(Reason::Refresh, 0x3FFF)]),
+    (12, |s| s.refresh = 0, &[(Reason::Refresh, 0x3F00)]),
+    (13, |s| (s.refresh, s.previous_mode) = (0x80, 4), &[(Reason::Refresh, 0x3F80)]),
+    (14, |s| s.dma = 0xFF, &[(Reason::Refresh, 0x3FFF)]),
+    (15, |s| s.refresh = 0x42, &[(Reason::Refresh, 0x3F42)]),
     // The first matrix access, from the line's own VC, and one that waits for the CPU's byte.
-    (15, |s| (text_bad_line(s), aec_low(s), s.vc = 0x155).0, &[(Reason::Matrix, 0x0555)]),
-    (15, text_bad_line, &[]),
-    (15, |s| (text_line(s), aec_low(s), s.accessing = true).0, &[]),
+    (15, |s| (text_bad_line(s), aec_low(s), s.vc = 0x155).0, &[(Reason::Refresh, 0x3FFF), (Reason::Matrix, 0x0555)]),
+    (15, text_bad_line, &[(Reason::Refresh, 0x3FFF)]),
+    (15, |s| (text_line(s), aec_low(s), s.accessing = true).0, &[(Reason::Refresh, 0x3FFF)]),
     // Display, and with it the next matrix access.
     (20, text_line, &[(Reason::Graphics, 0x111A)]),
     (20, |s| (text_bad_line(s), aec_low(s)).0, &[(Reason::Graphics, 0x111A), (Reason::Matrix, 0x0429)]),
@@ -653,7 +665,7 @@ fn the_told_reads() -> bool {
     let refused = told(TICK, 4, state.clone()) == (2, [0; 6])
         && told(TICK, 0, State { raster: 312, ..state.clone() }) == (3, [0; 6])
         && told(TICK, 0, State { clock: CLOCK_LIMIT, ..state.clone() }) == (4, [0; 6]);
-    let others = OTHERS.iter().all(|call| told(*call, 0, state.clone()) == (0, [0; 6])) && told(TICK, 0, before(MOS6569, 11)) == (0, [0; 6]);
+    let others = OTHERS.iter().all(|call| told(*call, 0, state.clone()) == (0, [0; 6])) && told(TICK, 0, before(MOS6569, 11)) == (0, [6, 0xFF, 0x3F, 0, 0, 0]);
 
     let text = |bytes: &[u8]| {
         let mut text = Vec::new();
@@ -668,7 +680,7 @@ fn the_told_reads() -> bool {
     let at = |n: usize| lines.get(n).map_or("", String::as_str);
     let shown = lines.len() == 69
         && [at(0), at(1), at(2), at(11), at(15), at(16), at(57)]
-            == ["steps 70", "1 311 0 pointer 07FB", "2 0 0 idle 3FFF", "11 0 0", "15 0 0", "16 0 0 idle 3FFF", "57 0 0 idle 3FFF"]
+            == ["steps 70", "1 311 0 pointer 07FB", "2 0 0 idle 3FFF", "11 0 0 refresh 3FFF", "15 0 0 refresh 3FFB", "16 0 0 idle 3FFF", "57 0 0 idle 3FFF"]
         && [at(64), at(65), at(66), at(67), at(68)]
             == ["1 1 0 pointer 07FB", "2 1 0 idle 3FFF", "3 1 1 pointer 07FC sprite 0000", "4 1 2 sprite 0001 sprite 0002", "refused 8 69"];
     taken && refused && others && shown && text(&[]) == "refused 7 0\n" && text(&[0; 8]) == "steps 0\n"
@@ -715,6 +727,36 @@ fn the_lost_cycles() -> bool {
         let case = Case { call: CYCLES_LOST, bank: 9, arguments: [0; 4], state: State { cycle: 1, lost: 200, ..powered(kind) } };
         let asked = answer_case(chip.as_mut(), &case)[..3] == [0, 200, 0];
         line && sprite && next && given && warning && limits && asked
+    })
+}
+
+/// 02 (xiv): five less in every line, and 0xFF in cycle 2 where the frame flag is set, not where the raster is 0. The original sets it; in
+/// its stand-in it is one less after each access.
+fn the_refresh() -> bool {
+    let mut chips: [Box<dyn Chip>; 3] =
+        [Box::new(Machine::new(Memory::new())), Box::new(Model::new(Memory::new(), MOS6569)), Box::new(Model::new(Memory::new(), MOS6567R8))];
+    chips.iter_mut().all(|chip| {
+        let kind = chip.state().kind;
+        let last = column(kind).last_cycle;
+        // The counter after so many ticks from a state, and the address of the refresh read in the last of them.
+        let mut after = |cycle: u16, ticks: u16, change: &dyn Fn(&mut State)| {
+            let mut state = State { raster: 100, ..powered(kind) };
+            state.cycle = cycle;
+            change(&mut state);
+            chip.load(&state);
+            (0..ticks).for_each(|_| chip.tick().expect("the tick is taken"));
+            (chip.state().refresh, chip.reads().iter().find(|read| read.0 == Reason::Refresh).map(|read| read.1))
+        };
+        let line = [10, 11, 12, 13, 14, 15, 16, last].map(|cycle| after(last, cycle, &|s| s.refresh = 3))
+            == [(3, None), (2, Some(0x3F03)), (1, Some(0x3F02)), (0, Some(0x3F01)), (0xFF, Some(0x3F00)), (0xFE, Some(0x3FFF)), (0xFE, None), (0xFE, None)];
+        // The frame flag, on any line; without it raster 0 changes nothing.
+        let flag = |s: &mut State| (s.frame_flag, s.refresh) = (true, 7);
+        let frame = [(last, 1), (last, 2), (1, 1), (2, 1)].map(|(cycle, ticks)| after(cycle, ticks, &flag).0) == [7, 0xFF, 0xFF, 7];
+        let zero = after(1, 1, &|s| (s.raster, s.refresh) = (0, 7)).0 == 7;
+        // The last line ends the frame by itself.
+        let end = |s: &mut State| (s.raster, s.refresh) = (column(kind).last_line, 7);
+        let ends = [1, 2, 15].map(|ticks| after(last, ticks, &end).0) == [7, 0xFF, 0xFA];
+        line && frame && zero && ends
     })
 }
 
@@ -791,12 +833,12 @@ fn the_reads_of_the_6567r8() -> bool {
     });
     let refused = read(59, |s| s.dma = 1) == Reads::of(&[(Reason::Pointer, 0x07F8)]);
     let holes = [10, 56, 57, 58].iter().all(|cycle| read(*cycle, aec_low) == idle && read(*cycle, |s| s.dma = 0xFF) == idle);
-    let none = (11..=15).all(|cycle| read(cycle, aec_low) == Reads::default());
+    let refresh = (11..=15).all(|cycle| read(cycle, aec_low) == Reads::of(&[(Reason::Refresh, 0x3FFF)]));
     let bad: Change = |s| (text_bad_line(s), aec_low(s)).0;
-    let rows = read(15, bad) == Reads::of(&[(Reason::Matrix, 0x0428)])
+    let rows = read(15, bad) == Reads::of(&[(Reason::Refresh, 0x3FFF), (Reason::Matrix, 0x0428)])
         && read(16, bad) == Reads::of(&[(Reason::Graphics, 0x111A), (Reason::Matrix, 0x0429)])
         && read(55, bad) == Reads::of(&[(Reason::Graphics, 0x111A)]);
-    pairs && refused && holes && none && rows
+    pairs && refused && holes && refresh && rows
 }
 
 /// Between two ticks, on line 100. The compare line is 356 first, 100 but for its bit 8.

@@ -111,8 +111,20 @@ pub fn accepted_state(r: &mut Rng, kind: u8, cycle: u16) -> Drawn {
         pending: if r.flag() { Some(r.below(40) as u8) } else { None },
         kind,
         lost: if r.chance(1, 4) { cycle as u8 } else { r.below(u64::from(cycle) + 1) as u8 },
+        refresh: refresh(r),
     };
     (state, flags)
+}
+
+/// A refresh counter: any byte, often one from which a line's accesses go past 0. It is drawn aside, so that a seed makes the states that
+/// it made before there was one.
+fn refresh(r: &Rng) -> u8 {
+    let mut aside = r.clone();
+    if aside.chance(1, 3) {
+        aside.pick(&[0, 0, 1, 2, 3, 4, 5, 0xFE, 0xFF])
+    } else {
+        aside.byte()
+    }
 }
 
 /// Bends a state so that the next tick merges: displaying, no bad line, RC 0, output enabled, and

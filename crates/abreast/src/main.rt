@@ -51,14 +51,14 @@ fn flag(b: u8) -> u8 {
 }
 
 // Two bytes of a number; past the scene's end none.
-fn put16(body: &mut [u8; 310], at: usize, v: u64) {
-    if at < 309 {
+fn put16(body: &mut [u8; 311], at: usize, v: u64) {
+    if at < 310 {
         body[at] = low(v);
         body[at + 1] = low(v / 256);
     }
 }
 
-fn put64(body: &mut [u8; 310], at: usize, v: u64) {
+fn put64(body: &mut [u8; 311], at: usize, v: u64) {
     put16(body, at, v);
     if at < 300 {
         put16(body, at + 2, v / 65536);
@@ -67,18 +67,18 @@ fn put64(body: &mut [u8; 310], at: usize, v: u64) {
     }
 }
 
-fn head(body: &mut [u8; 310], kind: u8) {
+fn head(body: &mut [u8; 311], kind: u8) {
     body[0] = 78;
     body[1] = 80;
     body[2] = 83;
-    body[3] = 4;
+    body[3] = 5;
     put16(body, 4, schedule::last_cycle(kind) as u64);
     body[308] = kind;
     body[309] = body[309] % 64;
 }
 
 // The flags of the beam, the interrupt and the border, which are 0 or 1.
-fn first_flags(body: &mut [u8; 310]) {
+fn first_flags(body: &mut [u8; 311]) {
     body[8] = flag(body[8]);
     body[9] = flag(body[9]);
     body[11] = flag(body[11]);
@@ -92,7 +92,7 @@ fn first_flags(body: &mut [u8; 310]) {
 }
 
 // Those of the bus, the rows and the frame.
-fn other_flags(body: &mut [u8; 310]) {
+fn other_flags(body: &mut [u8; 311]) {
     body[257] = flag(body[257]);
     body[258] = flag(body[258]);
     body[259] = flag(body[259]);
@@ -119,7 +119,7 @@ fn pending(b: u8) -> u8 {
 }
 
 // What is held to a range: VC, RC, VMLI, the modes, the AEC counter, the pending place.
-fn counters(body: &mut [u8; 310]) {
+fn counters(body: &mut [u8; 311]) {
     body[252] = body[252] % 4;
     body[254] = body[254] % 4;
     body[255] = body[255] % 8;
@@ -131,7 +131,7 @@ fn counters(body: &mut [u8; 310]) {
 }
 
 // A sprite's number, MC and base, which is often near its last row.
-fn sprite(body: &mut [u8; 310], k: usize, x: u64)
+fn sprite(body: &mut [u8; 311], k: usize, x: u64)
     requires { ⌜ k < 8 ⌝ }
 {
     let at = 75 + 12 * k;
@@ -148,7 +148,7 @@ fn sprite(body: &mut [u8; 310], k: usize, x: u64)
 }
 
 // A sprite's Y: often the line's that begins, and 0, which meets lines 0 and 256.
-fn height(body: &mut [u8; 310], k: usize, line: u64, x: u64)
+fn height(body: &mut [u8; 311], k: usize, line: u64, x: u64)
     requires { ⌜ k < 8 ⌝ }
 {
     let y = match x / 256 % 4 {
@@ -159,7 +159,7 @@ fn height(body: &mut [u8; 310], k: usize, line: u64, x: u64)
     body[22 + k] = y;
 }
 
-fn sprites(body: &mut [u8; 310], line: u64, seed: u64) -> u64 {
+fn sprites(body: &mut [u8; 311], line: u64, seed: u64) -> u64 {
     let mut x = seed;
     for k in 0..8usize {
         x = rolled(x);
@@ -208,7 +208,7 @@ fn edge(line: u64, usual: u64, x: u64) -> u64 {
 }
 
 // The compare line and the border's, all often the line's own; the compare line also the one before, which a frame's end does not leave.
-fn compares(body: &mut [u8; 310], old: u64, line: u64, seed: u64) -> u64 {
+fn compares(body: &mut [u8; 311], old: u64, line: u64, seed: u64) -> u64 {
     let x = rolled(seed);
     put16(body, 52, compared(old, line, x));
     let y = rolled(x);
@@ -219,7 +219,7 @@ fn compares(body: &mut [u8; 310], old: u64, line: u64, seed: u64) -> u64 {
 }
 
 // Every other line is a bad one, where a line may be; every fourth frame flag stays; half of the rows are the first.
-fn bad(body: &mut [u8; 310], line: u64, seed: u64) -> u64 {
+fn bad(body: &mut [u8; 311], line: u64, seed: u64) -> u64 {
     let x = rolled(seed);
     if one_in(2, x) {
         body[50] = (body[50] & 0xE0) | 16 | low(line % 8);
@@ -235,7 +235,7 @@ fn bad(body: &mut [u8; 310], line: u64, seed: u64) -> u64 {
 }
 
 // Few sprites fetch, and few wait to be cleared.
-fn masks(body: &mut [u8; 310], seed: u64) -> u64 {
+fn masks(body: &mut [u8; 311], seed: u64) -> u64 {
     let x = rolled(seed);
     if one_in(3, x) {
         body[71] = 0;
@@ -250,7 +250,7 @@ fn masks(body: &mut [u8; 310], seed: u64) -> u64 {
 }
 
 // The forced clock is in the line or near it, or any.
-fn clocks(body: &mut [u8; 310], seed: u64) -> u64 {
+fn clocks(body: &mut [u8; 311], seed: u64) -> u64 {
     let x = rolled(seed);
     let clock = 1000 + x / 256 % 1099511627776;
     put64(body, 299, clock);
@@ -261,7 +261,7 @@ fn clocks(body: &mut [u8; 310], seed: u64) -> u64 {
 }
 
 // A scene of this kind at the last cycle of its line.
-fn made(body: &mut [u8; 310], kind: u8, seed: u64) -> u64 {
+fn made(body: &mut [u8; 311], kind: u8, seed: u64) -> u64 {
     let a = fill(body, seed);
     head(body, kind);
     first_flags(body);
@@ -304,16 +304,16 @@ fn as_a_whole(chip: Chip, ram: &[u8], rom: &[u8], colour: &[u8], bank: u8, n: u6
     answer.chip
 }
 
-// The first place at which two scenes differ, or 310.
-fn first_apart(a: &[u8; 310], b: &[u8; 310]) -> u64 {
+// The first place at which two scenes differ, or 311.
+fn first_apart(a: &[u8; 311], b: &[u8; 311]) -> u64 {
     let mut i = 0usize;
-    while i < 310 {
+    while i < 311 {
         if a[i] != b[i] {
             return i as u64;
         }
         i = i + 1;
     }
-    310
+    311
 }
 
 // The ticks of one line, of two or of three.
@@ -330,8 +330,8 @@ fn apart(chip: Chip, kind: u8, ram: &[u8], rom: &[u8], colour: &[u8], bank: u8, 
     let whole = as_a_whole(chip, ram, rom, colour, bank, n);
     let ticks = ticks_of(n, schedule::last_cycle(kind));
     let ticked = one_by_one(chip, ram, rom, colour, bank, ticks);
-    let mut first = [0u8; 310];
-    let mut second = [0u8; 310];
+    let mut first = [0u8; 311];
+    let mut second = [0u8; 311];
     scene::encode(whole, &mut first);
     scene::encode(ticked, &mut second);
     first_apart(&first, &second)
@@ -347,7 +347,7 @@ fn more(n: u64, met: bool) -> u64 {
 }
 
 // Whether the line that begins is a bad one.
-fn is_bad(body: &[u8; 310], line: u64) -> bool {
+fn is_bad(body: &[u8; 311], line: u64) -> bool {
     let den = body[50] / 16 % 2 == 1;
     let latch = if line == 0x30 { den } else { body[271] == 1 };
     latch & (0x30 <= line) & (line <= 0xF7) & (low(line % 8) == body[50] % 8)
@@ -359,8 +359,8 @@ fn pair(low: u8, high: u8) -> u64
     low as u64 + high as u64 * 256
 }
 
-fn word(body: &[u8; 310], at: usize) -> u64
-    requires { ⌜ at < 309 ⌝ }
+fn word(body: &[u8; 311], at: usize) -> u64
+    requires { ⌜ at < 310 ⌝ }
     ensures { λ r. ⌜ r < 65536 ⌝ }
 {
     pair(body[at], body[at + 1])
@@ -400,7 +400,7 @@ fn nothing() -> Met {
 }
 
 // A clock by its low six bytes.
-fn clock_at(body: &[u8; 310], at: usize) -> u64
+fn clock_at(body: &[u8; 311], at: usize) -> u64
     requires { ⌜ at < 305 ⌝ }
     ensures { λ r. ⌜ r < 281474976710656 ⌝ }
 {
@@ -411,7 +411,7 @@ fn clock_at(body: &[u8; 310], at: usize) -> u64
 }
 
 // Whether the forced clock is one of the line's.
-fn is_forced(body: &[u8; 310], cycle: u64) -> bool {
+fn is_forced(body: &[u8; 311], cycle: u64) -> bool {
     let clock = clock_at(body, 299);
     let forced = clock_at(body, 291);
     if forced <= clock {
@@ -420,7 +420,7 @@ fn is_forced(body: &[u8; 310], cycle: u64) -> bool {
     (forced - clock - 1) / 2 < cycle
 }
 
-fn tally(met: Met, body: &[u8; 310], kind: u8) -> Met {
+fn tally(met: Met, body: &[u8; 311], kind: u8) -> Met {
     let last = schedule::last_line(kind) as u64;
     let raster = word(body, 6);
     let bad = is_bad(body, more(raster, true));
@@ -486,7 +486,7 @@ struct Found {
 fn compared_with(
     found: Found,
     chip: Chip,
-    body: &[u8; 310],
+    body: &[u8; 311],
     kind: u8,
     ram: &[u8],
     rom: &[u8],
@@ -497,7 +497,7 @@ fn compared_with(
     let n = 1 + x / 4096 % 3;
     let bank = low(x / 256 % 4);
     let place = apart(chip, kind, ram, rom, colour, bank, n);
-    let alike = place == 310;
+    let alike = place == 311;
     if !alike & (std::num::wrapping_add_u64(found.alike, 5) > found.accepted) {
         tell_apart(number, n, place);
     }
@@ -511,7 +511,7 @@ fn compared_with(
 
 fn one(
     found: Found,
-    body: &[u8; 310],
+    body: &[u8; 311],
     kind: u8,
     ram: &[u8],
     rom: &[u8],
@@ -537,7 +537,7 @@ fn kind_of(kind: u8, ram: &[u8], rom: &[u8], colour: &[u8], seed: u64) {
     };
     let mut i = 0u64;
     while i < STATES {
-        let mut body = [0u8; 310];
+        let mut body = [0u8; 311];
         x = made(&mut body, kind, x);
         found = one(found, &body, kind, ram, rom, colour, x, i);
         i = i + 1;

@@ -54,6 +54,7 @@ chipMade kind forced cycle raster =
         rows = Rows.fresh;
         pending = waits Nothing;
         changed = false;
+        refresh = 0xFF;
       };
       picture = record {
         pen = record { ch = 0; carry = 0; gfx = 0; mode = 0; old = 0; changing = false; forced = forced };

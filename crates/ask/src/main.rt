@@ -20,7 +20,7 @@ fn word(low: u8, high: u8) -> u16 {
 
 // A scene to the output; false where that fails.
 fn show(chip: Chip) -> bool {
-    let mut body = [0u8; 310];
+    let mut body = [0u8; 311];
     scene::encode(chip, &mut body);
     io::write_all(STDOUT_FILENO, &body)
 }
@@ -113,9 +113,9 @@ fn plain(head: [u8; 7], memories: &[u8]) -> bool
 
 // A question of kind 5 or 6, about a scene; false where the run ends.
 fn about(head: [u8; 7]) -> bool {
-    let mut body = [0u8; 310];
+    let mut body = [0u8; 311];
     let n = io::read_full(STDIN_FILENO, &mut body);
-    if n != 310 {
+    if n != 311 {
         return false;
     }
     let decoded = scene::decode_newest(&body);

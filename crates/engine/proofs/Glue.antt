@@ -16,6 +16,7 @@ use Rattle.registers.specs.declared.Controls.{Controls}
 use Rattle.registers.specs.declared.Irq.{Irq}
 use Rattle.registers.specs.declared.Registers.{Registers}
 use Rattle.registers.specs.Control.{modeNumber, timed}
+use Rattle.raster.specs.Refresh.{lessBy}
 use Rattle.sprites.specs.declared.Sprites.{Sprites}
 use Rattle.arbitration.specs.declared.Bus.{Bus}
 use Rattle.rows.specs.declared.Rows.{Rows}
@@ -24,7 +25,7 @@ use Rattle.access.specs.Merge.{Merging, merging}
 use Rattle.picture.specs.declared.Pen.{Pen}
 use Rattle.picture.specs.Pen.{Latches}
 use Rattle.world.specs.World.{World}
-use Rattle.lines.specs.Begin.{kindIn, lineOf, wrapsOf, rasterOf, latchLine, frameLine, irqLine, badOf, risesOf}
+use Rattle.lines.specs.Begin.{kindIn, lineOf, wrapsOf, rasterOf, latchLine, frameLine, irqLine, refreshLine, badOf, risesOf}
 use Rattle.lines.specs.Bus.{Masks, masksOf, busLine}
 use Rattle.lines.specs.Rows.{rowsLine, showsOf, baseOf, rcOf}
 use Rattle.lines.specs.Sprites.{spritesLoaded, spritesLine}
@@ -58,13 +59,14 @@ pub masks-glue : (g : Controls) (s : Side) {begun : Begun} → begun ≡ begunOf
     → masksIn g s ≡ twoMasks (s .sprites .dma) (turnedOf g s .loaded .dma)
 masks-glue g s begun masks = rw begun at masks
 
-pub turn-glue : (g : Controls) (s : Side) {begun : Begun} {irq : Irq} {framed : Framed} {counted : Counted} {bus : Bus} {rows : Rows} {cycle : ℕ}
+pub turn-glue : (g : Controls) (s : Side) {begun : Begun} {irq : Irq} {framed : Framed} {counted : Counted} {bus : Bus} {rows : Rows} {refresh cycle : ℕ}
     → begun ≡ begunOf g s
     → irq ≡ interruptOf (s .irq) (s .frame .matched) (begun .matched) (begun .wraps) (g .compare)
     → framed ≡ framedOf (begun .line) (begun .raster) (g .den) (g .csel) (s .border)
     → counted ≡ countedOf (kindIn s) (begun .raster) (g .my) (g .enable) (g .yexp) (s .sprites)
     → bus ≡ busLine (kindIn s) (begun .bad) (twoMasks (s .sprites .dma) (counted .loaded .dma)) (s .bus)
     → rows ≡ rowsLine (begun .bad) (begun .rises) (begun .wraps) (s .rows)
+    → refresh ≡ lessBy 5 (pick (begun .wraps) 0xFF (s .refresh))
     → cycle ≡ lastCycle (kindIn s)
     → masksOf (kindIn s) (begun .raster) (g .my) (g .enable) (g .yexp) (s .sprites) ≡ twoMasks (s .sprites .dma) (spritesLoaded (kindIn s) (begun .raster) (g .my) (g .enable) (g .yexp) (s .sprites) .dma)
     → _≡_ {A = Turned} (record {
@@ -89,15 +91,16 @@ pub turn-glue : (g : Controls) (s : Side) {begun : Begun} {irq : Irq} {framed : 
         rows = rows;
         pending = s .pending;
         changed = irq .line;
+        refresh = refresh;
       };
       begun = begun;
       framed = framed;
       loaded = counted .loaded;
     }) (turnedOf g s)
-unfolding lineSide frameLine irqLine
-turn-glue g s begun irq framed counted bus rows cycle masks =
+unfolding lineSide frameLine irqLine refreshLine
+turn-glue g s begun irq framed counted bus rows refresh cycle masks =
     let asked = (rw (counted, begun) at bus) ∙ ap (λ (m : Masks). busLine (kindIn s) (badOf g s) m (s .bus)) (sym (masks-glue g s begun masks)) in
-    rw (asked, irq, framed, counted, rows, begun, cycle)
+    rw (asked, irq, framed, counted, rows, refresh, begun, cycle)
 
 pub count-glue : (s : Sprites) (kind raster : ℕ) (my : List ℕ) (enable yexp : ℕ) {b : Bases} {l a : Sprites} → Sound s → enable < 256 → yexp < 256
     → b ≡ basesOf (kindOf kind) s

@@ -14,6 +14,8 @@ ghost use Rattle.engine.specs.World.{world, Begins};
 ghost use Rattle.lines.specs.Side.{masksIn};
 ghost use Rattle.lines.specs.Whole.{lineWorld};
 ghost use Rattle.fetches.specs.Fetches.{latches};
+ghost use Rattle.laws.specs.Pick.{pick};
+ghost use Rattle.raster.specs.Refresh.{lessBy};
 ghost use Rattle.sprites.specs.Sprites.{crunched, nextBase};
 ghost use Rattle.engine.specs.Counters.{Sound, movedBy, baseBy, early3, basesOf, maskOf, endingOf, equalOf, settledBy, settledOf, incrementedBy, incrementedOf, countedOf};
 ghost use Rattle.lines.specs.Bus.{masksOf};
@@ -104,6 +106,14 @@ fn frame(b: Border, line: u16, raster: u16, den: bool, csel: bool) -> Framed
         second: wide.disabled,
         rest: narrow.disabled,
     }
+}
+
+// The refresh counter after the five accesses of a line.
+fn refreshed(wraps: bool, counter: u8) -> u8
+    ensures { λ r. ⌜ r ≡ lessBy 5 (pick wraps 0xFF counter) ⌝ }
+{
+    let first = laws::pick8(wraps, 255, counter);
+    ((laws::wide(first) + 251) % 256) as u8
 }
 
 // ---- the rows
@@ -407,6 +417,7 @@ fn turn(side: Side, g: Controls) -> Turned
     let border = framed.border;
     let bus = waves::bus_line(bus0, kind, begun.bad, sprites0.dma, loaded.dma);
     let rows = row(rows0, begun.bad, begun.rises, begun.wraps);
+    let refresh = refreshed(begun.wraps, side.refresh);
     let beam = Beam {
         kind: kind,
         cycle: beam0.cycle,
@@ -433,6 +444,7 @@ fn turn(side: Side, g: Controls) -> Turned
         rows: rows,
         pending: pending,
         changed: irq.line,
+        refresh: refresh,
     };
     Turned {
         side: next,

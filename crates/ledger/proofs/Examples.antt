@@ -1,13 +1,13 @@
--- 02 (viii), 02 (xi): lines as they are written. Assumes nothing.
+-- 02 (viii), 02 (xi), 02 (xiv): lines as they are written. Assumes nothing.
 use mathlib.Core.Path.{_≡_, refl}
 use mathlib.Core.List.{[], _∷_}
 use Rattle.access.specs.Reads.{read, told}
 use Rattle.line.specs.Text.{ascii, textOf}
 use Rattle.ledger.specs.Text.{hexOf, addressOf, named, wordOf, readOf, lineOf}
 
-pub no-read : lineOf 11 59 0 (told []) ≡ ascii "11 59 0\n"
-unfolding lineOf readOf named textOf ascii told
-no-read = refl
+pub refresh : lineOf 11 51 0 (told (read 6 0x3F00 ∷ [])) ≡ ascii "11 51 0 refresh 3F00\n"
+unfolding lineOf readOf named wordOf addressOf hexOf textOf ascii told
+refresh = refl
 
 pub pointer : lineOf 1 0 0 (told (read 1 0x03FB ∷ [])) ≡ ascii "1 0 0 pointer 03FB\n"
 unfolding lineOf readOf named wordOf addressOf hexOf textOf ascii told
@@ -17,9 +17,9 @@ pub sprite : lineOf 2 107 2 (told (read 2 0x2001 ∷ [])) ≡ ascii "2 107 2 spr
 unfolding lineOf readOf named wordOf addressOf hexOf textOf ascii told
 sprite = refl
 
-pub matrix : lineOf 15 59 1 (told (read 3 0x0428 ∷ [])) ≡ ascii "15 59 1 matrix 0428\n"
+pub refresh-and-matrix : lineOf 15 51 1 (told (read 6 0x3FFC ∷ read 3 0x0400 ∷ [])) ≡ ascii "15 51 1 refresh 3FFC matrix 0400\n"
 unfolding lineOf readOf named wordOf addressOf hexOf textOf ascii told
-matrix = refl
+refresh-and-matrix = refl
 
 pub graphics-and-matrix : lineOf 16 59 2 (told (read 4 0x1008 ∷ read 3 0x0429 ∷ [])) ≡ ascii "16 59 2 graphics 1008 matrix 0429\n"
 unfolding lineOf readOf named wordOf addressOf hexOf textOf ascii told

@@ -26,9 +26,13 @@ module _ {r : ℕ} where
   unfolding wordOf
   word4 a b d e = simp (ne-eqb r 1 a, ne-eqb r 2 b, ne-eqb r 3 d, eq-eqb r 4 e)
 
-  pub word5 : (r ≡ 1 → ⊥) → (r ≡ 2 → ⊥) → (r ≡ 3 → ⊥) → (r ≡ 4 → ⊥) → wordOf r ≡ ascii "idle "
+  pub word5 : (r ≡ 1 → ⊥) → (r ≡ 2 → ⊥) → (r ≡ 3 → ⊥) → (r ≡ 4 → ⊥) → r ≡ 5 → wordOf r ≡ ascii "idle "
   unfolding wordOf
-  word5 a b d e = simp (ne-eqb r 1 a, ne-eqb r 2 b, ne-eqb r 3 d, ne-eqb r 4 e)
+  word5 a b d f e = simp (ne-eqb r 1 a, ne-eqb r 2 b, ne-eqb r 3 d, ne-eqb r 4 f, eq-eqb r 5 e)
+
+  pub word6 : (r ≡ 1 → ⊥) → (r ≡ 2 → ⊥) → (r ≡ 3 → ⊥) → (r ≡ 4 → ⊥) → (r ≡ 5 → ⊥) → wordOf r ≡ ascii "refresh "
+  unfolding wordOf
+  word6 a b d f e = simp (ne-eqb r 1 a, ne-eqb r 2 b, ne-eqb r 3 d, ne-eqb r 4 f, ne-eqb r 5 e)
 
 -- four digits, by what each call says of its own
 pub four : (n end : ℕ) {w x y z : ℕ} → w ≡ hexOf (n / 4096) → x ≡ hexOf (n / 256) → y ≡ hexOf (n / 16) → z ≡ hexOf n → addressOf n end ≡ w ∷ x ∷ y ∷ z ∷ end ∷ []

@@ -15,18 +15,19 @@ hexOf n = cond (ltb (n % 16) 10) (48 + n % 16) (55 + n % 16)
 unfoldable pub addressOf : ℕ → ℕ → List ℕ
 addressOf a end = hexOf (a / 4096) ∷ hexOf (a / 256) ∷ hexOf (a / 16) ∷ hexOf a ∷ end ∷ []
 
--- 02 (viii): the numbers that are reasons
+-- 02 (viii), 02 (xiv): the numbers that are reasons
 unfoldable pub named : ℕ → Bool
-named reason = leb 1 reason && leb reason 5
+named reason = leb 1 reason && leb reason 6
 
--- 02 (viii): what a reason is called
+-- 02 (viii), 02 (xiv): what a reason is called
 unfoldable pub wordOf : ℕ → List ℕ
 wordOf reason =
     cond (eqb reason 1) (ascii "pointer ")
     (cond (eqb reason 2) (ascii "sprite ")
     (cond (eqb reason 3) (ascii "matrix ")
     (cond (eqb reason 4) (ascii "graphics ")
-    (ascii "idle "))))
+    (cond (eqb reason 5) (ascii "idle ")
+    (ascii "refresh ")))))
 
 -- one space before a read; after the last the line ends
 abbrev pub endOf : Bool → ℕ

@@ -32,7 +32,7 @@ fn end(more: bool) -> u8
 fn is_named(reason: u8) -> bool
     ensures { λ r. ⌜ r ≡ named reason ⌝ }
 {
-    (1 <= reason) & (reason <= 5)
+    (1 <= reason) & (reason <= 6)
 }
 
 // ---- text at a place of a buffer; each answers the place after it
@@ -66,7 +66,10 @@ fn word(out: &mut [u8], at: usize, reason: u8) -> usize
     if reason == 4 {
         return line::text(&mut *out, at, b"graphics ");
     }
-    line::text(&mut *out, at, b"idle ")
+    if reason == 5 {
+        return line::text(&mut *out, at, b"idle ");
+    }
+    line::text(&mut *out, at, b"refresh ")
 }
 
 // A read; where the number is no reason's, nothing.

@@ -7,6 +7,7 @@ pub mod Split
 pub mod Asked
 pub mod Bus
 pub mod Rows
+pub mod Refresh
 pub mod Accesses
 pub mod Timing
 pub mod Slots

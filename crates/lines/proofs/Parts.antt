@@ -7,6 +7,7 @@ use Rattle.registers.specs.declared.Controls.{Controls}
 use Rattle.timing.specs.Beam.{badLine, baOutput}
 use Rattle.raster.specs.declared.Swept.{Swept}
 use Rattle.raster.specs.Frame.{swept}
+use Rattle.raster.specs.Refresh.{refreshFrom, refreshAfter}
 use Rattle.border.specs.declared.Border.{Border}
 use Rattle.sprites.specs.declared.Sprites.{Sprites}
 use Rattle.arbitration.specs.declared.Bus.{Bus}
@@ -64,6 +65,14 @@ module _ (g : Controls) (s : Side) where
   pendingIn zero = s .pending
   pendingIn (suc n) = pendingAfter (rowedIn n .fetches && not (busIn (suc n) .aeclow)) (rowedIn n .rows .vmli) (pendingIn n)
 
+  -- the refresh counter, as cycle n + 1 finds it and as cycle n leaves it
+  abbrev pub foundIn : ℕ → ℕ → ℕ
+  foundIn n ref = refreshFrom (sweepIn (suc n) .wraps) ref
+
+  unfoldable pub refreshIn : ℕ → ℕ
+  refreshIn zero = s .refresh
+  refreshIn (suc n) = refreshAfter (suc n) (foundIn n (refreshIn n))
+
   -- the whole side after n + 1 cycles
   abbrev pub sideIn : ℕ → Side
   sideIn n =
@@ -88,4 +97,5 @@ module _ (g : Controls) (s : Side) where
         rows = rowsIn (suc n);
         pending = pendingIn (suc n);
         changed = sweepIn (suc n) .irq .line;
+        refresh = refreshIn (suc n);
       }

@@ -18,7 +18,7 @@ use Rattle.side.specs.declared.Turned.{Turned}
 use Rattle.side.specs.Turn.{turned}
 use Rattle.lines.specs.Begin.{kindIn}
 use Rattle.lines.specs.Lines.{turnsOn}
-use Rattle.lines.proofs.Parts.{sweepIn, badIn, borderIn, spritesIn, phasedIn, askedIn, busIn, rowsIn, rowedIn, pendingIn, sideIn}
+use Rattle.lines.proofs.Parts.{sweepIn, badIn, borderIn, spritesIn, phasedIn, askedIn, busIn, rowsIn, rowedIn, pendingIn, foundIn, refreshIn, sideIn}
 
 module _ (g : Controls) (s : Side) where
   -- the orders of cycle n + 1
@@ -43,17 +43,18 @@ module _ (g : Controls) (s : Side) where
         mask = hasBit (phasedIn g s n .dma) (slotSprite (kindIn s) (suc n));
         mc = spriteAt (phasedIn g s n) (slotSprite (kindIn s) (suc n)) .mc;
         low = pick (slotAfterBus (kindIn s) (suc n)) (busIn g s (suc n) .aeclow) (busIn g s n .aeclow);
+        refresh = foundIn g s n (refreshIn g s n);
       }
 
   abbrev pub turnIn : ℕ → Turned
   turnIn n = record { side = sideIn g s n; orders = ordersIn n }
 
   pub turn-first : s .beam .cycle ≡ lastCycle (kindIn s) → turned g s ≡ turnIn 0
-  unfolding turned beamTurned sweepIn badIn borderIn spritesIn askedIn busIn rowsIn pendingIn
+  unfolding turned beamTurned sweepIn badIn borderIn spritesIn askedIn busIn rowsIn pendingIn refreshIn
   turn-first end = let e : nextCycle (kindIn s) (s .beam .cycle) ≡ 1 = cycle-wraps (kindIn s) (s .beam .cycle) (omega (arith, end)) in rw e
 
   pub turn-next : (n : ℕ) → suc n < lastCycle (kindIn s) → turned g (sideIn g s n) ≡ turnIn (suc n)
-  unfolding turned beamTurned sweepIn badIn borderIn spritesIn askedIn busIn rowsIn pendingIn
+  unfolding turned beamTurned sweepIn badIn borderIn spritesIn askedIn busIn rowsIn pendingIn refreshIn
   turn-next n l = let e : nextCycle (kindIn s) (suc n) ≡ suc (suc n) = cycle-next (kindIn s) (suc n) l ∙ (omega arith) in rw e
 
   pub split : s .beam .cycle ≡ lastCycle (kindIn s) → (n : ℕ) → n < lastCycle (kindIn s) → turnsOn g (suc n) s ≡ sideIn g s n

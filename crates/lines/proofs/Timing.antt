@@ -35,6 +35,7 @@ use Rattle.lines.proofs.Sprites.{sprite-step, sprites-line}
 use Rattle.lines.proofs.Asked.{asked-asks}
 use Rattle.lines.proofs.Bus.{bus-step, bus-waves, by-low, by-clock}
 use Rattle.lines.proofs.Rows.{rowedAt, row-step, rows-line}
+use Rattle.lines.proofs.Refresh.{refresh-line}
 use Rattle.lines.proofs.Accesses.{low-on, before-fetch, after-fetch, during-fetch, mid-rows}
 
 -- ---- the parts' own ways
@@ -162,6 +163,7 @@ module _ (g : Controls) (s : Side) where
           border-line (lineOf g s) (rasterOf g s) (g .den) (g .csel) (s .border) (kindIn s),
           sprites-line (lineOf g s) (rasterOf g s) (g .my) (g .enable) (g .yexp) (kindIn s) (s .sprites),
           rows-line (badOf g s) (badBegins g s) (risesOf g s) (wrapsOf g s) (s .rows) (kindIn s),
+          refresh-line g s,
         )
 
 pub a-line-of-the-side : ALineOfTheSide

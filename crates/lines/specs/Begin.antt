@@ -9,6 +9,7 @@ use Rattle.registers.specs.declared.Controls.{Controls}
 use Rattle.timing.specs.Beam.{nextLine, atLastLine, badLine}
 use Rattle.raster.specs.declared.Frame.{Frame}
 use Rattle.raster.specs.Frame.{matchRaises, raised}
+use Rattle.raster.specs.Refresh.{lessBy}
 use Rattle.side.specs.declared.Side.{Side}
 
 abbrev pub kindIn : Side → Kind
@@ -46,6 +47,10 @@ module _ (g : Controls) (s : Side) where
   -- Bauer 3.12: once while matched, and for line 0 without a look at the match
   unfoldable pub irqLine : Irq
   irqLine = raised (raised (s .irq) (matchRaises matchedOf (s .frame .matched))) (wrapsOf && eqb (g .compare) 0)
+
+  -- Bauer 3.13, and 02 (xiv): put back with the frame's end; after it the line's five refresh accesses
+  unfoldable pub refreshLine : ℕ
+  refreshLine = lessBy 5 (pick wrapsOf 0xFF (s .refresh))
 
   -- Bauer 3.5: in its first two cycles the line is the one before the frame's end
   unfoldable pub badBegins : Bool

@@ -3,7 +3,7 @@ use mathlib.Core.Bool.{true, false}
 use Rattle.schedule.specs.Kind.{lastCycle}
 use Rattle.registers.specs.declared.Controls.{Controls}
 use Rattle.side.specs.declared.Side.{Side}
-use Rattle.lines.specs.Begin.{kindIn, lineOf, wrapsOf, rasterOf, latchLine, frameLine, irqLine, badOf, risesOf}
+use Rattle.lines.specs.Begin.{kindIn, lineOf, wrapsOf, rasterOf, latchLine, frameLine, irqLine, refreshLine, badOf, risesOf}
 use Rattle.lines.specs.Border.{borderLine}
 use Rattle.lines.specs.Sprites.{spritesLine}
 use Rattle.lines.specs.Bus.{Masks, masksOf, busLine}
@@ -38,4 +38,5 @@ module _ (g : Controls) (s : Side) where
         pending = s .pending;
         -- 01, tick 10
         changed = irqLine g s .line;
+        refresh = refreshLine g s;
       }

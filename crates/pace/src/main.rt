@@ -111,7 +111,7 @@ fn turns(chip: Chip, memories: &[u8], bank: u8, apart: bool, steps: &[u8], n: u6
 }
 
 fn tell(chip: Chip) {
-    let mut body = [0u8; 310];
+    let mut body = [0u8; 311];
     scene::encode(chip, &mut body);
     io::write_all(STDOUT_FILENO, &body);
 }
@@ -141,7 +141,7 @@ fn space() -> [u8; 21504]
 
 fn main() {
     let mut memories = space();
-    let mut body = [0u8; 310];
+    let mut body = [0u8; 311];
     let mut head = [0u8; 6];
     let mut steps = [0u8; 16384];
     let lent = io::read_full(STDIN_FILENO, &mut memories);
@@ -151,7 +151,7 @@ fn main() {
     if lent != 21504 {
         return;
     }
-    if read != 310 {
+    if read != 311 {
         return;
     }
     if told != 6 {

@@ -7,7 +7,7 @@ use lib.Dec.{eqb}
 use lib.IntN.{ℤ}
 use borrow.Author.Tests.{not-true, not-false}
 use Rattle.laws.specs.Pick.{pick}
-use Rattle.schedule.specs.Diagram.{happens, graphicsCleared, lateIdle}
+use Rattle.schedule.specs.Diagram.{happens, refresh, graphicsCleared, lateIdle}
 use Rattle.schedule.specs.declared.Reasons.{Reasons}
 use Rattle.schedule.specs.Machinery.Reads.{pointerReasons, dataReasons, gapReasons}
 use Rattle.memory.specs.Memory.{readAt}
@@ -22,7 +22,7 @@ use Rattle.access.specs.Slots.{pointerSpots, dataSpots, pointersAfter, byteTwoA
 use Rattle.side.specs.declared.Orders.{Orders}
 use Rattle.picture.specs.declared.Pen.{Pen}
 use Rattle.picture.specs.declared.Drawn.{Drawn}
-use Rattle.picture.specs.Machinery.Spots.{drawnBy, slotNoted}
+use Rattle.picture.specs.Machinery.Spots.{drawnBy, gapSpot, slotNoted}
 use Rattle.picture.specs.Pen.{sameClock, characterOf, graphicsOf, penAfter, matrixAfter, slotted}
 
 -- a cycle without a graphics access, and one with it
@@ -107,11 +107,13 @@ module _ (p b w : List ℕ) (orders : Orders) (ptrs : ℕ) (ram rom : List ℕ) 
   fetched t u at why n bytes words = (simp (n, why, at, t, u), (simp (t, u), (simp (bytes, t, u), simp (words, t, u))))
 
   -- a cycle without a slot
-  pub gapped : {why : Reasons} {n : ℕ}
+  pub gapped : {refreshing : Bool} {why : Reasons} {at n : ℕ}
       → orders .pointing ≡ false
       → orders .fetching ≡ false
-      → why ≡ gapReasons (orders .cycle)
-      → n ≡ notedOf why (madeSpots 0x3FFF 0)
+      → refreshing ≡ happens refresh (orders .cycle)
+      → at ≡ gapSpot refreshing (orders .refresh)
+      → why ≡ gapReasons refreshing
+      → n ≡ notedOf why (madeSpots at 0)
       → (n ≡ slotNoted p orders ptrs ram rom bank) × ((p ≡ slotted p b w orders ptrs ram rom bank .pointers) × ((b ≡ slotted p b w orders ptrs ram rom bank .bytes) × (w ≡ slotted p b w orders ptrs ram rom bank .words)))
   unfolding slotNoted slotted
-  gapped t u why n = (simp (n, why, t, u), (simp (t, u), (simp (t, u), simp (t, u))))
+  gapped t u refreshing at why n = (simp (n, why, at, refreshing, t, u), (simp (t, u), (simp (t, u), simp (t, u))))

@@ -6,7 +6,7 @@ use mathlib.Core.List.{List, [], _∷_, map}
 use lib.IntN.{ℤ}
 use Rattle.laws.proofs.Choice.{picks}
 use Rattle.schedule.specs.Kind.{Kind}
-use Rattle.schedule.specs.Reads.{Access, pointer, byteTwo, byteOne, byteZero, matrix, graphics, idle, reasonOf, accesses}
+use Rattle.schedule.specs.Reads.{Access, pointer, byteTwo, byteOne, byteZero, refreshing, matrix, graphics, idle, reasonOf, accesses}
 use Rattle.memory.specs.Memory.{readAt}
 use Rattle.memory.specs.declared.Found.{Found}
 use Rattle.access.specs.declared.Read.{Read}
@@ -94,6 +94,7 @@ same-spots k m ps orders clock p p' mode ptrs ram rom bank e (a ∷ l) = cons-sa
     spot byteTwo = refl
     spot byteOne = refl
     spot byteZero = refl
+    spot refreshing = refl
     spot matrix = refl
     spot graphics = ap (λ (f : Found). f .address) e
     spot idle = refl

@@ -11,10 +11,11 @@ use Rattle.laws.proofs.Choice.{either}
 use Rattle.schedule.specs.Kind.{Kind}
 use Rattle.memory.specs.Memory.{readAt}
 use Rattle.schedule.specs.Diagram.{happens, refresh, characterAccess, graphicsAccess, onLine, pointerTime, dataTime, slotSprite}
-use Rattle.schedule.specs.Reads.{Access, pointer, byteTwo, byteOne, byteZero, matrix, graphics, idle, when, seesTwo, seesZero, reasonOf, accesses}
+use Rattle.schedule.specs.Reads.{Access, pointer, byteTwo, byteOne, byteZero, refreshing, matrix, graphics, idle, when, seesTwo, seesZero, reasonOf, accesses}
 use Rattle.schedule.specs.declared.Reasons.{Reasons}
-use Rattle.schedule.specs.Machinery.Reads.{seen, spriteReason, graphicsReason, reasons, litReasons, pointerReasons, dataReasons, gapReasons}
+use Rattle.schedule.specs.Machinery.Reads.{seen, spriteReason, graphicsReason, gapReason, reasons, litReasons, pointerReasons, dataReasons, gapReasons}
 use Rattle.schedule.proofs.Accesses.{Gap, lit-accesses, pointer-accesses, data-accesses, refresh-accesses, idle-accesses, pointer-no-character, data-no-character, data-no-pointer, character-in-refresh}
+use Rattle.raster.specs.Refresh.{refreshAddress}
 use Rattle.access.specs.declared.Read.{Read}
 use Rattle.access.specs.declared.Reads.{Reads}
 use Rattle.access.specs.declared.Spots.{Spots}
@@ -28,7 +29,7 @@ use Rattle.side.specs.declared.Orders.{Orders}
 use Rattle.picture.specs.declared.Pen.{Pen}
 use Rattle.picture.specs.Pen.{graphicsOf}
 use Rattle.picture.specs.Reads.{seenBy, spotOf, readsBy}
-use Rattle.picture.specs.Machinery.Spots.{drawSpots, spots, slotNoted, litNoted, darkNoted}
+use Rattle.picture.specs.Machinery.Spots.{drawSpots, spots, gapSpot, slotNoted, litNoted, darkNoted}
 
 -- what the orders have from the diagram
 pub record Follows (k : Kind) (o : Orders) : Type 0 where
@@ -41,15 +42,10 @@ pub record Follows (k : Kind) (o : Orders) : Type 0 where
 
 -- a list of one or two accesses, told
 module _ (f : Access → Read) (x : Access) where
-  one-or-two : (b : Bool) (y : Access) → told (map f (x ∷ when b y)) ≡ both (f x) (cond b (f y) silent)
+  pub one-or-two : (b : Bool) (y : Access) → told (map f (x ∷ when b y)) ≡ both (f x) (cond b (f y) silent)
   unfolding told
   one-or-two true y = refl
   one-or-two false y = refl
-
-  none-or-one : (b : Bool) → told (map f (when b x)) ≡ both (cond b (f x) silent) silent
-  unfolding told
-  none-or-one true = refl
-  none-or-one false = refl
 
 -- an address beside its reason
 sprite-read : (b on : Bool) (a : ℕ) → cond b (read (spriteReason on) a) silent ≡ readFor (seen b (spriteReason on)) a
@@ -94,6 +90,12 @@ sprite-small on = either (λ (n : ℕ). n < 0x100) on (omega arith) (omega arith
 
 graphics-reason-small : (moves : Bool) → graphicsReason moves < 0x100
 graphics-reason-small moves = either (λ (n : ℕ). n < 0x100) moves (omega arith) (omega arith)
+
+gap-reason-small : (r : Bool) → gapReason r < 0x100
+gap-reason-small r = either (λ (n : ℕ). n < 0x100) r (omega arith) (omega arith)
+
+gap-small : (r : Bool) (ref : ℕ) → gapSpot r ref < 0x10000
+gap-small r ref = either (λ (n : ℕ). n < 0x10000) r (omega arith) (omega arith)
 
 module _ (k : Kind) (m ps : List ℕ) (o : Orders) (clock : ℤ) (p : Pen) (mode ptrs : ℕ) (ram rom : List ℕ) (bank : ℕ) (follows : Follows k o) where
   -- an access as it is told, and where it reads
@@ -205,51 +207,57 @@ module _ (k : Kind) (m ps : List ℕ) (o : Orders) (clock : ℤ) (p : Pen) (mode
       ∙ read-back (dataReasons (o .mask) (o .low)) dataAt data-fit ∙ sym data-code ∙ sym (data-told time)
 
   -- a refresh cycle, with a character access or without
-  refresh-told : happens refresh (o .cycle) ≡ true → told (readsBy k m ps o clock p mode ptrs ram rom bank) ≡ both (cond (o .fills) (one matrix) silent) silent
+  refresh-told : happens refresh (o .cycle) ≡ true → told (readsBy k m ps o clock p mode ptrs ram rom bank) ≡ both (one refreshing) (cond (o .fills) (one matrix) silent)
   unfolding readsBy
-  refresh-told e = rw (refresh-accesses k (o .cycle) (seenBy o) e, follows .fills) (none-or-one one matrix (o .fills))
+  refresh-told e = rw (refresh-accesses k (o .cycle) (seenBy o) e, follows .fills) (one-or-two one refreshing (o .fills) matrix)
 
-  fill-fit : Fit (reasons 3 0) (spots (at .second) 0)
-  fill-fit = record { why-first = omega arith; why-second = omega arith; at-first = fill-small (o .fills) (o .column) ptrs ram rom bank; at-second = omega arith }
+  abbrev fillAt : Spots
+  fillAt = spots (refreshAddress (o .refresh)) (at .second)
 
-  gap-fit : Fit (gapReasons (o .cycle)) (spots 0x3FFF 0)
+  fill-fit : Fit (reasons 6 3) fillAt
+  fill-fit = record { why-first = omega arith; why-second = omega arith; at-first = omega arith; at-second = fill-small (o .fills) (o .column) ptrs ram rom bank }
+
+  abbrev gapAt : Bool → Spots
+  gapAt r = spots (gapSpot r (o .refresh)) 0
+
+  gap-fit : (r : Bool) → Fit (gapReasons r) (gapAt r)
   unfolding gapReasons
-  gap-fit = record { why-first = seen-small (not (happens refresh (o .cycle))) 5 (omega arith); why-second = omega arith; at-first = omega arith; at-second = omega arith }
+  gap-fit r = record { why-first = gap-reason-small r; why-second = omega arith; at-first = gap-small r (o .refresh); at-second = omega arith }
 
-  gap-noted : o .pointing ≡ false → o .fetching ≡ false → o .fills ≡ false → noted ≡ notedOf (gapReasons (o .cycle)) (spots 0x3FFF 0)
+  gap-noted : {r : Bool} → o .pointing ≡ false → o .fetching ≡ false → o .fills ≡ false → happens refresh (o .cycle) ≡ r → noted ≡ notedOf (gapReasons r) (gapAt r)
   unfolding darkNoted slotNoted
-  gap-noted n f none = rw (none, n, f)
+  gap-noted n f none e = rw (none, n, f, e)
 
-  fill-noted : o .fills ≡ true → noted ≡ notedOf (reasons 3 0) (spots (at .second) 0)
+  fill-noted : o .fills ≡ true → noted ≡ notedOf (reasons 6 3) fillAt
   unfolding darkNoted
   fill-noted e = rw e
 
-  fill-code : o .fills ≡ true → readsOf (reasons 3 0) (spots (at .second) 0) ≡ both (cond (o .fills) (one matrix) silent) silent
+  fill-code : o .fills ≡ true → readsOf (reasons 6 3) fillAt ≡ both (one refreshing) (cond (o .fills) (one matrix) silent)
   unfolding readsOf readFor reasonOf fillSpot
   fill-code e = rw e
 
-  hole-code : happens refresh (o .cycle) ≡ true → o .fills ≡ false → readsOf (gapReasons (o .cycle)) (spots 0x3FFF 0) ≡ both (cond (o .fills) (one matrix) silent) silent
-  unfolding readsOf readFor gapReasons
-  hole-code e none = rw (e, none)
+  alone-code : o .fills ≡ false → readsOf (gapReasons true) (gapAt true) ≡ both (one refreshing) (cond (o .fills) (one matrix) silent)
+  unfolding readsOf readFor gapReasons reasonOf
+  alone-code none = rw none
 
   in-refresh : (b : Bool) → o .fills ≡ b → o .pointing ≡ false → o .fetching ≡ false → happens refresh (o .cycle) ≡ true → readsIn noted ≡ told (readsBy k m ps o clock p mode ptrs ram rom bank)
-  in-refresh true q n f e = ap readsIn (fill-noted q) ∙ read-back (reasons 3 0) (spots (at .second) 0) fill-fit ∙ fill-code q ∙ sym (refresh-told e)
-  in-refresh false q n f e = ap readsIn (gap-noted n f q) ∙ read-back (gapReasons (o .cycle)) (spots 0x3FFF 0) gap-fit ∙ hole-code e q ∙ sym (refresh-told e)
+  in-refresh true q n f e = ap readsIn (fill-noted q) ∙ read-back (reasons 6 3) fillAt fill-fit ∙ fill-code q ∙ sym (refresh-told e)
+  in-refresh false q n f e = ap readsIn (gap-noted n f q e) ∙ read-back (gapReasons true) (gapAt true) (gap-fit true) ∙ alone-code q ∙ sym (refresh-told e)
 
   -- a cycle of the gaps
   gap-told : Gap k (o .cycle) → told (readsBy k m ps o clock p mode ptrs ram rom bank) ≡ both (one idle) silent
   unfolding readsBy told
   gap-told g = rw (idle-accesses k (o .cycle) (seenBy o) (follows .line) g)
 
-  gap-code : happens refresh (o .cycle) ≡ false → readsOf (gapReasons (o .cycle)) (spots 0x3FFF 0) ≡ both (one idle) silent
+  gap-code : readsOf (gapReasons false) (gapAt false) ≡ both (one idle) silent
   unfolding readsOf readFor gapReasons reasonOf
-  gap-code e = rw e
+  gap-code = refl
 
   in-gap : o .graphics ≡ false → o .pointing ≡ false → o .fetching ≡ false → happens refresh (o .cycle) ≡ false → readsIn noted ≡ told (readsBy k m ps o clock p mode ptrs ram rom bank)
   in-gap g n f e =
       let lit = sym (follows .graphics) ∙ g in
-      ap readsIn (gap-noted n f (unfilled (character-in-refresh (o .cycle) lit e)))
-      ∙ read-back (gapReasons (o .cycle)) (spots 0x3FFF 0) gap-fit ∙ gap-code e
+      ap readsIn (gap-noted n f (unfilled (character-in-refresh (o .cycle) lit e)) e)
+      ∙ read-back (gapReasons false) (gapAt false) (gap-fit false) ∙ gap-code
       ∙ sym (gap-told (record { graphics = lit; pointing = sym (follows .pointing) ∙ n; fetching = sym (follows .fetching) ∙ f; refresh = e }))
 
   by-tests : (b f r : Bool) → o .graphics ≡ false → o .pointing ≡ b → o .fetching ≡ f → happens refresh (o .cycle) ≡ r → readsIn noted ≡ told (readsBy k m ps o clock p mode ptrs ram rom bank)

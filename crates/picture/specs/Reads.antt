@@ -4,8 +4,9 @@ use Prim.Native.Nat.{ℕ}
 use mathlib.Core.List.{List, map}
 use lib.IntN.{ℤ}
 use Rattle.schedule.specs.Kind.{Kind}
-use Rattle.schedule.specs.Reads.{Access, pointer, byteTwo, byteOne, byteZero, matrix, graphics, idle, Seen, reasonOf, accesses}
+use Rattle.schedule.specs.Reads.{Access, pointer, byteTwo, byteOne, byteZero, refreshing, matrix, graphics, idle, Seen, reasonOf, accesses}
 use Rattle.memory.specs.Memory.{readAt}
+use Rattle.raster.specs.Refresh.{refreshAddress}
 use Rattle.access.specs.declared.Read.{Read}
 use Rattle.access.specs.Reads.{read}
 use Rattle.access.specs.Matrix.{matrixAddress}
@@ -26,6 +27,8 @@ spotOf m ps o clock p mode ptrs ram rom bank byteOne = oneRead ps (o .sprite) (o
 spotOf m ps o clock p mode ptrs ram rom bank byteZero = zeroRead ps (o .sprite) (o .mask) (o .mc) ram rom bank .address
 spotOf m ps o clock p mode ptrs ram rom bank matrix = readAt ram rom bank (matrixAddress ptrs (o .column)) .address
 spotOf m ps o clock p mode ptrs ram rom bank graphics = graphicsOf (characterOf m o clock p .ch) o clock p mode ptrs ram rom bank .address
+-- Bauer 3.13: by the refresh counter; 02 (xiv): the byte is dropped
+spotOf m ps o clock p mode ptrs ram rom bank refreshing = refreshAddress (o .refresh)
 -- Bauer 3.6.3: the idle access's own address, whose byte is dropped
 spotOf m ps o clock p mode ptrs ram rom bank idle = 0x3FFF
 

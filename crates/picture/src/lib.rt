@@ -7,7 +7,7 @@ ghost use lib.IntN.{ℤ};
 ghost use Rattle.laws.specs.Clock.{inRange};
 ghost use Rattle.memory.specs.Memory.{Lent};
 ghost use Rattle.access.specs.Merge.{latchOf};
-ghost use Rattle.picture.specs.Machinery.Spots.{drawnBy, slotNoted, litNoted, darkNoted};
+ghost use Rattle.picture.specs.Machinery.Spots.{drawnBy, gapSpot, slotNoted, litNoted, darkNoted};
 ghost use Rattle.picture.specs.Pen.{freshPen, sameClock, characterOf, graphicsOf, slotted, matrixAfter};
 use access::Latch;
 use access::Spots;
@@ -216,6 +216,16 @@ pub fn draw_dark(
     }
 }
 
+// Where a cycle without a slot and without graphics reads: its refresh, or the idle access.
+fn gap_spot(refreshing: bool, counter: u8) -> u16
+    ensures { λ r. ⌜ r ≡ gapSpot refreshing counter ⌝ }
+{
+    if refreshing {
+        return raster::refresh_address(counter);
+    }
+    0x3FFF
+}
+
 // The sprite slot of a cycle, if it has one; and the reads of the slot, or of the gap where there is none, in one number.
 pub fn slot(
     pointers: &mut [u8],
@@ -267,11 +277,13 @@ pub fn slot(
         );
         return access::noted(schedule::reasons_data(orders.mask, orders.low), at);
     }
+    let refreshing = schedule::refresh(orders.cycle);
+    let first = gap_spot(refreshing, orders.refresh);
     let at = Spots {
-        first: 0x3FFF,
+        first: first,
         second: 0,
     };
-    access::noted(schedule::reasons_gap(orders.cycle), at)
+    access::noted(schedule::reasons_gap(refreshing), at)
 }
 
 // The reads of a cycle with a graphics access: `at` is where `draw` read.
@@ -281,21 +293,22 @@ pub fn noted_lit(orders: Orders, at: Spots) -> u64
     access::noted(schedule::reasons_lit(orders.moves, orders.fills), at)
 }
 
-// The reads of a cycle without one: its slot's, or the matrix's where there is no slot.
+// The reads of a cycle without one: its slot's or its gap's; the matrix's comes after the refresh.
 pub fn noted_dark(orders: Orders, slot: u64, at: Spots) -> u64
     ensures { λ r. ⌜ r ≡ darkNoted orders slot at ⌝ }
 {
     let fills = orders.fills;
     if fills {
         let why = Reasons {
-            first: schedule::MATRIX,
-            second: 0,
+            first: schedule::REFRESH,
+            second: schedule::MATRIX,
         };
-        let only = Spots {
-            first: at.second,
-            second: 0,
+        let refresh = raster::refresh_address(orders.refresh);
+        let both = Spots {
+            first: refresh,
+            second: at.second,
         };
-        return access::noted(why, only);
+        return access::noted(why, both);
     }
     slot
 }

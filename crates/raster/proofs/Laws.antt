@@ -7,7 +7,7 @@ use lib.Dec.{eqb}
 use Rattle.laws.proofs.Choice.{either, and-true, and-false, or-false, picks, pick-either, never-both}
 use Rattle.schedule.specs.Kind.{Kind, lastLine}
 use Rattle.schedule.proofs.Places.{line-least}
-use Rattle.schedule.specs.Diagram.{happens, lineBegins, frameEnds}
+use Rattle.schedule.specs.Diagram.{happens, lineBegins, frameEnds, refresh}
 use Rattle.schedule.proofs.Parts.{Later}
 use Rattle.registers.specs.declared.Irq.{Irq}
 use Rattle.timing.specs.Beam.{latched}
@@ -15,6 +15,7 @@ use Rattle.timing.proofs.Kept.{line-high, line-next, not-last, latch-stays, lat
 use Rattle.raster.specs.declared.Frame.{Frame}
 use Rattle.raster.specs.declared.Swept.{Swept}
 use Rattle.raster.specs.Frame.{rasterBegun, matchRaises, frameBegun, frameEnded, raised, swept}
+use Rattle.raster.specs.Refresh.{refreshAfter}
 
 -- the raster line stays in the frame
 pub raster-kept : (k : Kind) (f : Frame) (i : Irq) (cycle r compare : ℕ) (den latch : Bool) → r ≤ lastLine k → swept k f i cycle r compare den latch .raster ≤ lastLine k
@@ -67,3 +68,8 @@ module _ (k : Kind) (f : Frame) (i : Irq) (cycle raster compare : ℕ) (den latc
   pub latch-inside : swept k f i cycle raster compare den latch .latch ≡ latched false raster den latch
   unfolding swept rasterBegun
   latch-inside = rw b
+
+-- the refresh counter rests where no refresh access is made
+pub refresh-rests : (cycle ref : ℕ) → happens refresh cycle ≡ false → refreshAfter cycle ref ≡ ref
+unfolding refreshAfter
+refresh-rests cycle ref e = rw e

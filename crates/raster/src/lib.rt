@@ -1,8 +1,9 @@
-// The line and the frame: where a line begins and a frame ends, the raster match, and the interrupt that it raises.
+// The line and the frame: where a line begins and a frame ends, the raster match, and the interrupt that it raises. The refresh counter, which begins with a frame.
 ghost use mathlib.Core.Path.{_≡_};
 ghost use Prim.Native.Nat.{_<_};
 ghost use Rattle.schedule.specs.Kind.{kindOf};
 ghost use Rattle.raster.specs.Frame.{fresh, rasterBegun, lineMatches, matchRaises, frameBegun, frameEnded, raised, compared, swept};
+ghost use Rattle.raster.specs.Refresh.{refreshFrom, lessBy, refreshAfter, refreshAddress};
 use registers::Irq;
 
 // What waits from line to line: the frame's end and the raster match.
@@ -173,4 +174,39 @@ pub fn turn(
         };
     }
     sweep(kind, frame, irq, cycle, raster, compare, den, latch)
+}
+
+// ---- the refresh counter
+
+// As a tick finds it: a frame's end puts it back.
+pub fn refresh_from(wraps: bool, counter: u8) -> u8
+    ensures { λ r. ⌜ r ≡ refreshFrom wraps counter ⌝ }
+{
+    laws::pick8(wraps, 255, counter)
+}
+
+fn one_less(counter: u8) -> u8
+    ensures { λ r. ⌜ r ≡ lessBy 1 counter ⌝ }
+{
+    if counter == 0 {
+        return 255;
+    }
+    counter - 1
+}
+
+// As a tick leaves it.
+pub fn refresh_after(cycle: u16, counter: u8) -> u8
+    ensures { λ r. ⌜ r ≡ refreshAfter cycle counter ⌝ }
+{
+    if schedule::refresh(cycle) {
+        return one_less(counter);
+    }
+    counter
+}
+
+// Where a refresh access reads.
+pub fn refresh_address(counter: u8) -> u16
+    ensures { λ r. ⌜ r ≡ refreshAddress counter ⌝ }
+{
+    0x3F00 + laws::wide(counter)
 }

@@ -165,7 +165,7 @@ fn tell(told: Told) -> bool {
         (second.address % 256) as u8,
         (second.address / 256) as u8,
     ];
-    let mut body = [0u8; 310];
+    let mut body = [0u8; 311];
     scene::encode(chip, &mut body);
     let written = io::write_all(STDOUT_FILENO, &head);
     if !written {
@@ -205,13 +205,13 @@ fn one(memories: &[u8]) -> bool
     requires { ⌜ length (now memories) ≡ 21504 ⌝ }
 {
     let mut call = [0u8; 6];
-    let mut body = [0u8; 310];
+    let mut body = [0u8; 311];
     let called = io::read_full(STDIN_FILENO, &mut call);
     let read = io::read_full(STDIN_FILENO, &mut body);
     if called != 6 {
         return false;
     }
-    if read != 310 {
+    if read != 311 {
         return false;
     }
     answer(call, &body, memories)

@@ -132,7 +132,7 @@ module _ (s : List ℕ) (bytes : Bytes s) (newest : isNewest s ≡ true) (fine :
   head : headBytes (beamAt s) ≡ listing at 0 14
   head =
       simp
-      (low-at, high-at, eqb-true (at 0) 78 (head-test 0), eqb-true (at 1) 80 (head-test 1), eqb-true (at 2) 83 (head-test 2), eqb-true (at 3) 4 (right (eqb (length s) 310) (eqb (at 3) 4) newest), flag-again (at 8) (early 0), flag-again (at 9) (early 1), flag-again (at 11) (early 2), flag-again (at 12) (early 3), flag-again (at 13) (early 4))
+      (low-at, high-at, eqb-true (at 0) 78 (head-test 0), eqb-true (at 1) 80 (head-test 1), eqb-true (at 2) 83 (head-test 2), eqb-true (at 3) 5 (right (eqb (length s) 311) (eqb (at 3) 5) newest), flag-again (at 8) (early 0), flag-again (at 9) (early 1), flag-again (at 11) (early 2), flag-again (at 12) (early 3), flag-again (at 13) (early 4))
 
   registers : registerBytes (registersAt s) ≡ listing at 14 42
   registers = simp (low-at, high-at)
@@ -176,8 +176,8 @@ module _ (s : List ℕ) (bytes : Bytes s) (newest : isNewest s ≡ true) (fine :
   pub chip-again : encoded (chipAt s) ≡ s
   unfolding encoded
   chip-again =
-      let parts : encoded (chipAt s) ≡ listing at 0 310 = λ i. head i ++ registers i ++ masks i ++ sprites i ++ matrix i ++ rest i ++ clocks i ++ (place-again (at 307) i ∷ at 308 ∷ mod-eq-of-lt (bytes 309) i ∷ []) in
-      parts ∙ listed 0 s 310 (eqb-true (length s) 310 (left (eqb (length s) 310) (eqb (at 3) 4) newest))
+      let parts : encoded (chipAt s) ≡ listing at 0 311 = λ i. head i ++ registers i ++ masks i ++ sprites i ++ matrix i ++ rest i ++ clocks i ++ (place-again (at 307) i ∷ at 308 ∷ mod-eq-of-lt (bytes 309) i ∷ at 310 ∷ []) in
+      parts ∙ listed 0 s 311 (eqb-true (length s) 311 (left (eqb (length s) 311) (eqb (at 3) 5) newest))
 
   -- ---- the chip of a scene can be saved
 

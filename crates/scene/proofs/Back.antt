@@ -11,7 +11,7 @@ use Rattle.sprites.specs.Sprites.{spriteAt, none}
 use Rattle.rows.specs.Pending.{waits}
 use Rattle.chip.specs.declared.Chip.{Chip}
 use Rattle.scene.specs.Numbers.{flagAt}
-use Rattle.versions.specs.Versions.{isNewest}
+use Rattle.versions.specs.Versions.{byteAt, isNewest}
 use Rattle.scene.specs.Decode.{beamAt, registersAt, irqAt, borderAt, spritesAt, pointersAt, wordsAt, spriteBytesAt, rowsAt, busAt, frameAt, penAt, matrixAt, waitsAt, sideAt, pictureAt, chipAt, fieldsFine}
 use Rattle.scene.specs.Encode.{encoded}
 use Rattle.scene.specs.Saved.{Saved}
@@ -85,6 +85,10 @@ module _ (c : Chip) (s : Saved c) where
   unfolding encoded
   changed = flag-back (c .side .changed)
 
+  refresh : byteAt (encoded c) 310 ≡ c .side .refresh
+  unfolding encoded
+  refresh = refl
+
   side : sideAt (encoded c) ≡ c .side
   side =
       λ i.
@@ -98,6 +102,7 @@ module _ (c : Chip) (s : Saved c) where
         rows = rows i;
         pending = pending i;
         changed = changed i;
+        refresh = refresh i;
       }
 
   picture : pictureAt (encoded c) ≡ c .picture

@@ -1,4 +1,4 @@
--- What the 310 bytes of the newest version hold, field by field in the order of FORMATS, Scene, and which bytes are a scene.
+-- What the 311 bytes of the newest version hold, field by field in the order of FORMATS, Scene, and which bytes are a scene.
 use Prim.Native.Nat.{ℕ, zero, suc, _+_, _*_}
 use mathlib.Core.Bool.{Bool, true, false, _&&_, _||_, cond}
 use mathlib.Core.List.{List, [], _∷_, _++_}
@@ -142,7 +142,7 @@ rowsAt s =
       access = flagAt s 262;
     }
 
--- 02 (xi): the lost cycles, last
+-- 02 (xi): the lost cycles, at 309
 abbrev pub busAt : List ℕ → Bus
 busAt s =
     record {
@@ -173,6 +173,7 @@ penAt s =
 abbrev pub waitsAt : List ℕ → Waits
 waitsAt s = waits (pendingOf (byteAt s 307))
 
+-- 02 (xiv): the refresh counter, last
 abbrev pub sideAt : List ℕ → Side
 sideAt s =
     record {
@@ -185,6 +186,7 @@ sideAt s =
       rows = rowsAt s;
       pending = waitsAt s;
       changed = flagAt s 259;
+      refresh = byteAt s 310;
     }
 
 abbrev pub pictureAt : List ℕ → Picture
@@ -231,6 +233,6 @@ decodedFields s = cond (fieldsFine s) (record { scene = true; chip = chipAt s })
 unfoldable pub decodedNewest : List ℕ → Decoded
 decodedNewest s = cond (isNewest s) (decodedFields s) noScene
 
--- 02 (iv), 02 (ix), 02 (xi): every version is read
+-- 02 (iv), 02 (ix), 02 (xi), 02 (xiv): every version is read
 unfoldable pub decoded : List ℕ → Decoded
 decoded s = decodedNewest (renewed s)

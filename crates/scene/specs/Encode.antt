@@ -1,4 +1,4 @@
--- The 310 bytes of a chip, part by part in the order of FORMATS, Scene: the newest version.
+-- The 311 bytes of a chip, part by part in the order of FORMATS, Scene: the newest version.
 use Prim.Native.Nat.{ℕ, zero, suc, _+_, _*_, _/_, _%_}
 use mathlib.Core.Bool.{Bool}
 use mathlib.Core.List.{List, [], _∷_, _++_}
@@ -25,7 +25,7 @@ use Rattle.scene.specs.Numbers.{bits, bitBytes, countByte, flagByte, pla
 -- head: 'N' 'P' 'S' and the version; then timing
 abbrev pub headBytes : Beam → List ℕ
 headBytes b =
-    78 ∷ 80 ∷ 83 ∷ 4
+    78 ∷ 80 ∷ 83 ∷ 5
     ∷ lowByte (b .cycle) ∷ highByte (b .cycle) ∷ lowByte (b .raster) ∷ highByte (b .raster)
     ∷ flagByte (b .den) ∷ flagByte (b .rsel) ∷ b .yscroll ∷ flagByte (b .bad) ∷ flagByte (b .rising) ∷ flagByte (b .ba) ∷ []
 
@@ -87,9 +87,9 @@ clockBytes z = bitBytes (bits z)
 abbrev pub clocksBytes : Bus → ℤ → List ℕ
 clocksBytes b forced = clockBytes (b .fall) ++ clockBytes (b .rise) ++ clockBytes forced ++ clockBytes (b .clock)
 
--- pending place; 02 (iv): the kind; 02 (xi): the lost cycles
-abbrev pub tailBytes : Pending → ℕ → ℕ → List ℕ
-tailBytes place kind lost = placeByte place ∷ kind ∷ lost % 256 ∷ []
+-- pending place; 02 (iv): the kind; 02 (xi): the lost cycles; 02 (xiv): the refresh counter
+abbrev pub tailBytes : Pending → ℕ → ℕ → ℕ → List ℕ
+tailBytes place kind lost refresh = placeByte place ∷ kind ∷ lost % 256 ∷ refresh ∷ []
 
 unfoldable pub encoded : Chip → List ℕ
 encoded c =
@@ -100,4 +100,4 @@ encoded c =
     ++ entryBytes (c .picture .matrix) 40
     ++ restOf (c .side) (c .picture .pen)
     ++ clocksBytes (c .side .bus) (c .picture .pen .forced)
-    ++ tailBytes (c .side .pending .place) (c .side .beam .kind) (c .side .bus .lost)
+    ++ tailBytes (c .side .pending .place) (c .side .beam .kind) (c .side .bus .lost) (c .side .refresh)

@@ -1,4 +1,4 @@
-// A saved chip: its 310 bytes, and the chip that bytes hold. The format is `Scene`: version 4 is written, and versions 1 to 3 are read too.
+// A saved chip: its 311 bytes, and the chip that bytes hold. The format is `Scene`: version 5 is written, and versions 1 to 4 are read too.
 // Every field has a fixed place, numbers lie low byte first, and a flag is 0 or 1.
 ghost use mathlib.Core.Path.{_≡_};
 ghost use mathlib.Core.List.{_∷_, []};
@@ -149,7 +149,7 @@ fn eight_at(bytes: &[u8], at: usize) -> [u8; 8]
 }
 
 fn beam_at(bytes: &[u8]) -> Beam
-    requires { ⌜ length (now bytes) ≡ 310 ⌝ }
+    requires { ⌜ length (now bytes) ≡ 311 ⌝ }
     ensures { λ r. ⌜ r ≡ beamAt (now (bytes .entry)) ⌝ }
 {
     Beam {
@@ -167,7 +167,7 @@ fn beam_at(bytes: &[u8]) -> Beam
 }
 
 fn registers_at(bytes: &[u8]) -> Registers
-    requires { ⌜ length (now bytes) ≡ 310 ⌝ }
+    requires { ⌜ length (now bytes) ≡ 311 ⌝ }
     ensures { λ r. ⌜ r ≡ registersAt (now (bytes .entry)) ⌝ }
 {
     Registers {
@@ -192,7 +192,7 @@ fn registers_at(bytes: &[u8]) -> Registers
 }
 
 fn irq_at(bytes: &[u8]) -> Irq
-    requires { ⌜ length (now bytes) ≡ 310 ⌝ }
+    requires { ⌜ length (now bytes) ≡ 311 ⌝ }
     ensures { λ r. ⌜ r ≡ irqAt (now (bytes .entry)) ⌝ }
 {
     Irq {
@@ -203,7 +203,7 @@ fn irq_at(bytes: &[u8]) -> Irq
 }
 
 fn border_at(bytes: &[u8]) -> Border
-    requires { ⌜ length (now bytes) ≡ 310 ⌝ }
+    requires { ⌜ length (now bytes) ≡ 311 ⌝ }
     ensures { λ r. ⌜ r ≡ borderAt (now (bytes .entry)) ⌝ }
 {
     Border {
@@ -230,7 +230,7 @@ fn sprite_at(bytes: &[u8], at: usize) -> Sprite
 }
 
 fn sprites_at(bytes: &[u8]) -> Sprites
-    requires { ⌜ length (now bytes) ≡ 310 ⌝ }
+    requires { ⌜ length (now bytes) ≡ 311 ⌝ }
     ensures { λ r. ⌜ r ≡ spritesAt (now (bytes .entry)) ⌝ }
 {
     Sprites {
@@ -254,7 +254,7 @@ fn sprites_at(bytes: &[u8]) -> Sprites
 }
 
 fn pointers_at(bytes: &[u8]) -> [u8; 8]
-    requires { ⌜ length (now bytes) ≡ 310 ⌝ }
+    requires { ⌜ length (now bytes) ≡ 311 ⌝ }
     ensures { λ r. ⌜ r ≡ pointersAt (now (bytes .entry)) ⌝ }
 {
     [
@@ -270,7 +270,7 @@ fn pointers_at(bytes: &[u8]) -> [u8; 8]
 }
 
 fn words_at(bytes: &[u8]) -> [u32; 8]
-    requires { ⌜ length (now bytes) ≡ 310 ⌝ }
+    requires { ⌜ length (now bytes) ≡ 311 ⌝ }
     ensures { λ r. ⌜ r ≡ wordsAt (now (bytes .entry)) ⌝ }
 {
     [
@@ -286,7 +286,7 @@ fn words_at(bytes: &[u8]) -> [u32; 8]
 }
 
 fn sprite_bytes_at(bytes: &[u8]) -> [u8; 24]
-    requires { ⌜ length (now bytes) ≡ 310 ⌝ }
+    requires { ⌜ length (now bytes) ≡ 311 ⌝ }
     ensures { λ r. ⌜ r ≡ spriteBytesAt (now (bytes .entry)) ⌝ }
 {
     [
@@ -318,7 +318,7 @@ fn sprite_bytes_at(bytes: &[u8]) -> [u8; 24]
 }
 
 fn matrix_at(bytes: &[u8]) -> [u16; 40]
-    requires { ⌜ length (now bytes) ≡ 310 ⌝ }
+    requires { ⌜ length (now bytes) ≡ 311 ⌝ }
     ensures { λ r. ⌜ r ≡ matrixAt (now (bytes .entry)) ⌝ }
 {
     let mut matrix = [0u16; 40];
@@ -331,7 +331,7 @@ fn matrix_at(bytes: &[u8]) -> [u16; 40]
 }
 
 fn rows_at(bytes: &[u8]) -> Rows
-    requires { ⌜ length (now bytes) ≡ 310 ⌝ }
+    requires { ⌜ length (now bytes) ≡ 311 ⌝ }
     ensures { λ r. ⌜ r ≡ rowsAt (now (bytes .entry)) ⌝ }
 {
     Rows {
@@ -346,7 +346,7 @@ fn rows_at(bytes: &[u8]) -> Rows
 }
 
 fn bus_at(bytes: &[u8]) -> Bus
-    requires { ⌜ length (now bytes) ≡ 310 ⌝ }
+    requires { ⌜ length (now bytes) ≡ 311 ⌝ }
     ensures { λ r. ⌜ r ≡ busAt (now (bytes .entry)) ⌝ }
 {
     Bus {
@@ -361,7 +361,7 @@ fn bus_at(bytes: &[u8]) -> Bus
 }
 
 fn frame_at(bytes: &[u8]) -> Frame
-    requires { ⌜ length (now bytes) ≡ 310 ⌝ }
+    requires { ⌜ length (now bytes) ≡ 311 ⌝ }
     ensures { λ r. ⌜ r ≡ frameAt (now (bytes .entry)) ⌝ }
 {
     Frame {
@@ -371,7 +371,7 @@ fn frame_at(bytes: &[u8]) -> Frame
 }
 
 fn pen_at(bytes: &[u8]) -> Pen
-    requires { ⌜ length (now bytes) ≡ 310 ⌝ }
+    requires { ⌜ length (now bytes) ≡ 311 ⌝ }
     ensures { λ r. ⌜ r ≡ penAt (now (bytes .entry)) ⌝ }
 {
     Pen {
@@ -386,7 +386,7 @@ fn pen_at(bytes: &[u8]) -> Pen
 }
 
 fn waits_at(bytes: &[u8]) -> Waits
-    requires { ⌜ length (now bytes) ≡ 310 ⌝ }
+    requires { ⌜ length (now bytes) ≡ 311 ⌝ }
     ensures { λ r. ⌜ r ≡ waitsAt (now (bytes .entry)) ⌝ }
 {
     Waits {
@@ -395,7 +395,7 @@ fn waits_at(bytes: &[u8]) -> Waits
 }
 
 fn side_at(bytes: &[u8]) -> Side
-    requires { ⌜ length (now bytes) ≡ 310 ⌝ }
+    requires { ⌜ length (now bytes) ≡ 311 ⌝ }
     ensures { λ r. ⌜ r ≡ sideAt (now (bytes .entry)) ⌝ }
 {
     Side {
@@ -408,11 +408,12 @@ fn side_at(bytes: &[u8]) -> Side
         rows: rows_at(bytes),
         pending: waits_at(bytes),
         changed: bytes[259] == 1,
+        refresh: bytes[310],
     }
 }
 
 fn picture_at(bytes: &[u8]) -> Picture
-    requires { ⌜ length (now bytes) ≡ 310 ⌝ }
+    requires { ⌜ length (now bytes) ≡ 311 ⌝ }
     ensures { λ r. ⌜ r ≡ pictureAt (now (bytes .entry)) ⌝ }
 {
     Picture {
@@ -427,14 +428,14 @@ fn picture_at(bytes: &[u8]) -> Picture
 // ---- what is a scene
 
 fn head_fine(bytes: &[u8]) -> bool
-    requires { ⌜ length (now bytes) ≡ 310 ⌝ }
+    requires { ⌜ length (now bytes) ≡ 311 ⌝ }
     ensures { λ r. ⌜ r ≡ headFine (now (bytes .entry)) ⌝ }
 {
     (bytes[0] == b'N') & (bytes[1] == b'P') & (bytes[2] == b'S')
 }
 
 fn early_flags(bytes: &[u8]) -> bool
-    requires { ⌜ length (now bytes) ≡ 310 ⌝ }
+    requires { ⌜ length (now bytes) ≡ 311 ⌝ }
     ensures { λ r. ⌜ r ≡ earlyFlags (now (bytes .entry)) ⌝ }
 {
     (bytes[8] < 2)
@@ -450,7 +451,7 @@ fn early_flags(bytes: &[u8]) -> bool
 }
 
 fn sprites_clear(bytes: &[u8]) -> bool
-    requires { ⌜ length (now bytes) ≡ 310 ⌝ }
+    requires { ⌜ length (now bytes) ≡ 311 ⌝ }
     ensures { λ r. ⌜ r ≡ spritesClear (now (bytes .entry)) ⌝ }
 {
     (bytes[79] == 0)
@@ -464,7 +465,7 @@ fn sprites_clear(bytes: &[u8]) -> bool
 }
 
 fn late_flags(bytes: &[u8]) -> bool
-    requires { ⌜ length (now bytes) ≡ 310 ⌝ }
+    requires { ⌜ length (now bytes) ≡ 311 ⌝ }
     ensures { λ r. ⌜ r ≡ lateFlags (now (bytes .entry)) ⌝ }
 {
     (bytes[257] < 2)
@@ -481,14 +482,14 @@ fn late_flags(bytes: &[u8]) -> bool
 
 // The two modes and the pending place.
 fn ranges_fine(bytes: &[u8]) -> bool
-    requires { ⌜ length (now bytes) ≡ 310 ⌝ }
+    requires { ⌜ length (now bytes) ≡ 311 ⌝ }
     ensures { λ r. ⌜ r ≡ rangesFine (now (bytes .entry)) ⌝ }
 {
     (bytes[263] < 8) & (bytes[264] < 8) & ((bytes[307] == 255) | (bytes[307] < 40))
 }
 
 fn fields_fine(bytes: &[u8]) -> bool
-    requires { ⌜ length (now bytes) ≡ 310 ⌝ }
+    requires { ⌜ length (now bytes) ≡ 311 ⌝ }
     ensures { λ r. ⌜ r ≡ fieldsFine (now (bytes .entry)) ⌝ }
 {
     let head = head_fine(bytes);
@@ -501,7 +502,7 @@ fn fields_fine(bytes: &[u8]) -> bool
 
 // The chip that a scene holds.
 fn chip_at(bytes: &[u8]) -> Chip
-    requires { ⌜ length (now bytes) ≡ 310 ⌝ }
+    requires { ⌜ length (now bytes) ≡ 311 ⌝ }
     ensures { λ r. ⌜ r ≡ chipAt (now (bytes .entry)) ⌝ }
 {
     Chip {
@@ -522,7 +523,7 @@ fn no_scene() -> Decoded
 }
 
 fn decode_fields(bytes: &[u8]) -> Decoded
-    requires { ⌜ length (now bytes) ≡ 310 ⌝ }
+    requires { ⌜ length (now bytes) ≡ 311 ⌝ }
     ensures { λ r. ⌜ r ≡ decodedFields (now (bytes .entry)) ⌝ }
 {
     let fine = fields_fine(bytes);
@@ -542,29 +543,42 @@ fn decode_fields(bytes: &[u8]) -> Decoded
 pub fn decode_newest(bytes: &[u8]) -> Decoded
     ensures { λ r. ⌜ r ≡ decodedNewest (now (bytes .entry)) ⌝ }
 {
-    let newest = versions::is_version(bytes, 4, 310);
+    let newest = versions::is_version(bytes, 5, 311);
     if newest {
         return decode_fields(bytes);
     }
     no_scene()
 }
 
+// Version 4 has no refresh counter: 0xFF, which is right from the next frame on.
+fn decode_fourth(bytes: &[u8]) -> Decoded
+    ensures { λ r. ⌜ r ≡ decodedNewest (next 4 310 255 (now (bytes .entry))) ⌝ }
+{
+    let fourth = versions::is_version(bytes, 4, 310);
+    if fourth {
+        let mut fifth = [0u8; 311];
+        versions::grow(bytes, &mut fifth, 5, 255);
+        return decode_newest(&fifth);
+    }
+    decode_newest(bytes)
+}
+
 // Version 3 has no lost cycles: 0, which is right from the next line on.
 fn decode_third(bytes: &[u8]) -> Decoded
-    ensures { λ r. ⌜ r ≡ decodedNewest (next 3 309 0 (now (bytes .entry))) ⌝ }
+    ensures { λ r. ⌜ r ≡ decodedNewest (next 4 310 255 (next 3 309 0 (now (bytes .entry)))) ⌝ }
 {
     let third = versions::is_version(bytes, 3, 309);
     if third {
         let mut fourth = [0u8; 310];
         versions::grow(bytes, &mut fourth, 4, 0);
-        return decode_newest(&fourth);
+        return decode_fourth(&fourth);
     }
-    decode_newest(bytes)
+    decode_fourth(bytes)
 }
 
 // Version 2 has a flag for each sprite: the mask decides, and they go.
 fn decode_second(bytes: &[u8]) -> Decoded
-    ensures { λ r. ⌜ r ≡ decodedNewest (next 3 309 0 (third (now (bytes .entry)))) ⌝ }
+    ensures { λ r. ⌜ r ≡ decodedNewest (next 4 310 255 (next 3 309 0 (third (now (bytes .entry))))) ⌝ }
 {
     let flagged = versions::is_flagged(bytes);
     if flagged {
@@ -597,7 +611,7 @@ fn head_bytes(b: Beam) -> [u8; 14]
         b'N',
         b'P',
         b'S',
-        4,
+        5,
         (b.cycle % 256) as u8,
         (b.cycle / 256) as u8,
         (b.raster % 256) as u8,
@@ -781,7 +795,7 @@ fn sprite_row(s: Sprites, p: Picture, k: usize) -> [u8; 12]
 }
 
 fn put_sprite(out: &mut [u8], k: usize, s: Sprites, p: Picture)
-    requires { ⌜ k < 8 ⌝ ∗ ⌜ length (now out) ≡ 310 ⌝ }
+    requires { ⌜ k < 8 ⌝ ∗ ⌜ length (now out) ≡ 311 ⌝ }
     ensures { λ r. ⌜ Put (now (out .entry)) (now (out .exit)) (75 + 12 * k) (75 + 12 * k + 12) (spriteRow s p k) ⌝ }
 {
     let row = sprite_row(s, p, k);
@@ -789,7 +803,7 @@ fn put_sprite(out: &mut [u8], k: usize, s: Sprites, p: Picture)
 }
 
 fn put_sprites(out: &mut [u8], s: Sprites, p: Picture)
-    requires { ⌜ length (now out) ≡ 310 ⌝ }
+    requires { ⌜ length (now out) ≡ 311 ⌝ }
     ensures { λ r. ⌜ Put (now (out .entry)) (now (out .exit)) 75 171 (spriteRows s p 8) ⌝ }
 {
     let mut k = 0usize;
@@ -808,7 +822,7 @@ fn put_word(out: &mut [u8], at: usize, x: u16)
 }
 
 fn put_matrix(out: &mut [u8], matrix: [u16; 40])
-    requires { ⌜ length (now out) ≡ 310 ⌝ }
+    requires { ⌜ length (now out) ≡ 311 ⌝ }
     ensures { λ r. ⌜ Put (now (out .entry)) (now (out .exit)) 171 251 (entryBytes matrix 40) ⌝ }
 {
     let mut k = 0usize;
@@ -827,7 +841,7 @@ fn put_clock(out: &mut [u8], at: usize, x: i64)
 }
 
 fn put_clocks(out: &mut [u8], bus: Bus, forced: i64)
-    requires { ⌜ length (now out) ≡ 310 ⌝ }
+    requires { ⌜ length (now out) ≡ 311 ⌝ }
     ensures { λ r. ⌜ Put (now (out .entry)) (now (out .exit)) 275 307 (clocksBytes bus forced) ⌝ }
 {
     put_clock(out, 275, bus.fall);
@@ -837,7 +851,7 @@ fn put_clocks(out: &mut [u8], bus: Bus, forced: i64)
 }
 
 fn put_head(out: &mut [u8], beam: Beam)
-    requires { ⌜ length (now out) ≡ 310 ⌝ }
+    requires { ⌜ length (now out) ≡ 311 ⌝ }
     ensures { λ r. ⌜ Put (now (out .entry)) (now (out .exit)) 0 14 (headBytes beam) ⌝ }
 {
     let part = head_bytes(beam);
@@ -845,7 +859,7 @@ fn put_head(out: &mut [u8], beam: Beam)
 }
 
 fn put_registers(out: &mut [u8], regs: Registers)
-    requires { ⌜ length (now out) ≡ 310 ⌝ }
+    requires { ⌜ length (now out) ≡ 311 ⌝ }
     ensures { λ r. ⌜ Put (now (out .entry)) (now (out .exit)) 14 56 (registerBytes regs) ⌝ }
 {
     let part = register_bytes(regs);
@@ -853,7 +867,7 @@ fn put_registers(out: &mut [u8], regs: Registers)
 }
 
 fn put_masks(out: &mut [u8], irq: Irq, border: Border, sprites: Sprites)
-    requires { ⌜ length (now out) ≡ 310 ⌝ }
+    requires { ⌜ length (now out) ≡ 311 ⌝ }
     ensures { λ r. ⌜ Put (now (out .entry)) (now (out .exit)) 56 75 (maskBytes irq border sprites) ⌝ }
 {
     let part = mask_bytes(irq, border, sprites);
@@ -861,7 +875,7 @@ fn put_masks(out: &mut [u8], irq: Irq, border: Border, sprites: Sprites)
 }
 
 fn put_rest(out: &mut [u8], s: Side, pen: Pen)
-    requires { ⌜ length (now out) ≡ 310 ⌝ }
+    requires { ⌜ length (now out) ≡ 311 ⌝ }
     ensures { λ r. ⌜ Put (now (out .entry)) (now (out .exit)) 251 275 (restOf s pen) ⌝ }
 {
     let beam = s.beam;
@@ -873,18 +887,18 @@ fn put_rest(out: &mut [u8], s: Side, pen: Pen)
     versions::put(out, 251, &part);
 }
 
-fn put_tail(out: &mut [u8], pending: Pending, kind: u8, lost: u64)
-    requires { ⌜ length (now out) ≡ 310 ⌝ }
-    ensures { λ r. ⌜ Put (now (out .entry)) (now (out .exit)) 307 310 (tailBytes pending kind lost) ⌝ }
+fn put_tail(out: &mut [u8], pending: Pending, kind: u8, lost: u64, refresh: u8)
+    requires { ⌜ length (now out) ≡ 311 ⌝ }
+    ensures { λ r. ⌜ Put (now (out .entry)) (now (out .exit)) 307 311 (tailBytes pending kind lost refresh) ⌝ }
 {
-    let part = [place_byte(pending), kind, (lost % 256) as u8];
+    let part = [place_byte(pending), kind, (lost % 256) as u8, refresh];
     versions::put(out, 307, &part);
 }
 
 fn fill(chip: Chip, out: &mut [u8])
-    requires { ⌜ length (now out) ≡ 310 ⌝ }
+    requires { ⌜ length (now out) ≡ 311 ⌝ }
     ensures { λ r. ⌜ now (out .exit) ≡ encoded chip ⌝ }
-    ensures { λ r. ⌜ length (now (out .exit)) ≡ 310 ⌝ }
+    ensures { λ r. ⌜ length (now (out .exit)) ≡ 311 ⌝ }
 {
     let regs = chip.regs;
     let side = chip.side;
@@ -905,13 +919,13 @@ fn fill(chip: Chip, out: &mut [u8])
     put_matrix(out, matrix);
     put_rest(out, side, pen);
     put_clocks(out, bus, pen.forced);
-    put_tail(out, pending, beam.kind, bus.lost);
+    put_tail(out, pending, beam.kind, bus.lost, side.refresh);
 }
 
 // The same over an array, whose length its type tells. The second promise follows from the first, and spares a caller who hands the bytes on its proof.
-pub fn encode(chip: Chip, out: &mut [u8; 310])
+pub fn encode(chip: Chip, out: &mut [u8; 311])
     ensures { λ r. ⌜ now (out .exit) ≡ encoded chip ⌝ }
-    ensures { λ r. ⌜ length (now (out .exit)) ≡ 310 ⌝ }
+    ensures { λ r. ⌜ length (now (out .exit)) ≡ 311 ⌝ }
 {
     fill(chip, out);
 }

@@ -1,20 +1,21 @@
--- The table of reads, taken apart: what a cycle reads with a graphics access, in a slot, in a refresh cycle and in the gaps, and that no cycle reads three times. Assumes nothing.
+-- The table of reads, taken apart: what a cycle reads with a graphics access, in a slot, in a refresh cycle and in the gaps, and that every cycle of the line reads once or twice, a phase each. Assumes nothing.
 use mathlib.Core.Path.{_≡_, refl, ap, subst, sym}
 use mathlib.Core.Bool.{Bool, true, false, not, _&&_, _||_, cond}
-use mathlib.Core.List.{List, [], _∷_, _++_, append-nil}
+use mathlib.Core.List.{List, [], _∷_, _++_, append-nil, map}
+use mathlib.Core.Logic.{_⊎_, inl, inr}
 use Prim.Native.Nat.{ℕ, _<_, _≤_}
 use native.Mathlib.Omega.{arith}
 use native.Mathlib.Decide.{decLt}
-use borrow.Author.Tests.{lt-leb}
+use borrow.Author.Tests.{le-leb, lt-leb, leb-true}
 use lib.Dec.{T, leb, leb→le}
 use lib.ListN.{length}
 use Rattle.laws.proofs.Below as Below
 use Rattle.laws.proofs.Choice.{left, right, and-true, and-false}
 use Rattle.schedule.specs.Kind.{Kind, the6569, the6567R8, lastCycle}
 use Rattle.schedule.specs.Diagram.{happens, refresh, characterAccess, graphicsAccess, onLine, pointerTime, dataTime, slotSprite}
-use Rattle.schedule.specs.Reads.{Access, pointer, byteTwo, byteOne, byteZero, matrix, graphics, idle, Seen, when, seesTwo, seesZero, accesses}
+use Rattle.schedule.specs.Reads.{Access, pointer, byteTwo, byteOne, byteZero, refreshing, matrix, graphics, idle, Seen, phase, when, seesTwo, seesZero, accesses}
 use Rattle.schedule.proofs.Places.{last-most}
-use Rattle.schedule.proofs.Parts.{Slotless, lit-small, slotless}
+use Rattle.schedule.proofs.Parts.{Slotless, Lit, lit, slotless}
 
 -- ---- which events share no cycle
 
@@ -66,7 +67,7 @@ pub data-no-pointer : (k : Kind) (c : ℕ) → dataTime k c ≡ true → pointer
 unfolding dataTime pointerTime happens
 data-no-pointer k c e = never dataTime pointerTime tt tt k c (data-small k c e) e
 
--- no slot in a refresh cycle, and no graphics access
+-- no slot in a refresh cycle, and no graphics access; no refresh in a slot
 pub refresh-no-pointer : (k : Kind) (c : ℕ) → happens refresh c ≡ true → pointerTime k c ≡ false
 unfolding pointerTime happens
 refresh-no-pointer k c e = never (λ k c. happens refresh c) pointerTime tt tt k c (refresh-small c e) e
@@ -79,9 +80,13 @@ pub refresh-no-graphics : (c : ℕ) → happens refresh c ≡ true → happens g
 unfolding happens
 refresh-no-graphics c e = never (λ k c. happens refresh c) (λ k c. happens graphicsAccess c) tt tt the6569 c (refresh-small c e) e
 
-lit-no-refresh : (c : ℕ) → happens graphicsAccess c ≡ true → happens refresh c ≡ false
-unfolding happens
-lit-no-refresh c e = never (λ k c. happens graphicsAccess c) (λ k c. happens refresh c) tt tt the6569 c (lit-small c e) e
+pointer-no-refresh : (k : Kind) (c : ℕ) → pointerTime k c ≡ true → happens refresh c ≡ false
+unfolding pointerTime happens
+pointer-no-refresh k c e = never pointerTime (λ k c. happens refresh c) tt tt k c (pointer-small k c e) e
+
+data-no-refresh : (k : Kind) (c : ℕ) → dataTime k c ≡ true → happens refresh c ≡ false
+unfolding dataTime happens
+data-no-refresh k c e = never dataTime (λ k c. happens refresh c) tt tt k c (data-small k c e) e
 
 -- a character access has a graphics access or a refresh beside it
 alone : (c : ℕ) → Dec (c < 66) → happens graphicsAccess c ≡ false → happens refresh c ≡ false → happens characterAccess c ≡ false
@@ -104,22 +109,23 @@ pub lit-accesses : (k : Kind) (c : ℕ) (s : Seen) → happens graphicsAccess c 
 unfolding accesses
 lit-accesses k c s e =
     let slots = slotless k c e in
-    rw (slots .pointing, slots .fetching, e, lit-no-refresh c e)
+    rw (slots .pointing, slots .fetching, e, lit c e .refresh)
     (ap (λ (xs : List Access). graphics ∷ xs) (no-idle (when (happens characterAccess c && s .fills) matrix) (onLine k c)))
 
 pub pointer-accesses : (k : Kind) (c : ℕ) (s : Seen) → pointerTime k c ≡ true → accesses k c s ≡ pointer ∷ when (seesTwo k c s) byteTwo
 unfolding accesses
-pointer-accesses k c s e = rw (e, pointer-no-graphics k c e, pointer-no-character k c e) (no-idle (pointer ∷ when (seesTwo k c s) byteTwo) (onLine k c))
+pointer-accesses k c s e = rw (e, pointer-no-refresh k c e, pointer-no-graphics k c e, pointer-no-character k c e) (no-idle (pointer ∷ when (seesTwo k c s) byteTwo) (onLine k c))
 
 pub data-accesses : (k : Kind) (c : ℕ) (s : Seen) → dataTime k c ≡ true → accesses k c s ≡ byteOne ∷ when (seesZero s) byteZero
 unfolding accesses
 data-accesses k c s e =
-    rw (data-no-pointer k c e, e, data-no-graphics k c e, data-no-character k c e) (no-idle (byteOne ∷ when (seesZero s) byteZero) (onLine k c))
+    rw (data-no-pointer k c e, e, data-no-refresh k c e, data-no-graphics k c e, data-no-character k c e) (no-idle (byteOne ∷ when (seesZero s) byteZero) (onLine k c))
 
-pub refresh-accesses : (k : Kind) (c : ℕ) (s : Seen) → happens refresh c ≡ true → accesses k c s ≡ when (happens characterAccess c && s .fills) matrix
+pub refresh-accesses : (k : Kind) (c : ℕ) (s : Seen) → happens refresh c ≡ true → accesses k c s ≡ refreshing ∷ when (happens characterAccess c && s .fills) matrix
 unfolding accesses
 refresh-accesses k c s e =
-    rw (refresh-no-pointer k c e, refresh-no-data k c e, refresh-no-graphics c e, e) (no-idle (when (happens characterAccess c && s .fills) matrix) (onLine k c))
+    rw (refresh-no-pointer k c e, refresh-no-data k c e, refresh-no-graphics c e, e)
+    (ap (λ (xs : List Access). refreshing ∷ xs) (no-idle (when (happens characterAccess c && s .fills) matrix) (onLine k c)))
 
 -- a cycle that has none of these
 pub record Gap (k : Kind) (c : ℕ) : Type 0 where
@@ -136,7 +142,7 @@ gap-accesses k c s g =
 pub idle-accesses : (k : Kind) (c : ℕ) (s : Seen) → onLine k c ≡ true → Gap k c → accesses k c s ≡ idle ∷ []
 idle-accesses k c s l g = rw (gap-accesses k c s g, l)
 
--- ---- 02 (viii): at most two
+-- ---- 02 (viii): at most two; 02 (xiv): in each cycle of the line one in its first phase, and after it one in its second or none
 
 one : (b : Bool) (a : Access) → length (when b a) ≤ 1
 one true a = omega arith
@@ -146,17 +152,47 @@ two : (x : Access) (b : Bool) (a : Access) → length (x ∷ when b a) ≤ 2
 two x true a = omega arith
 two x false a = omega arith
 
+abbrev pub InPhases : List Access → Type 0
+InPhases xs = (map phase xs ≡ 1 ∷ []) ⊎ (map phase xs ≡ 1 ∷ 2 ∷ [])
+
+first-then : (x a : Access) → phase x ≡ 1 → phase a ≡ 2 → (b : Bool) → InPhases (x ∷ when b a)
+first-then x a e f true = inr (rw (e, f))
+first-then x a e f false = inl (rw e)
+
 module _ (k : Kind) (c : ℕ) (s : Seen) where
   by-tests : (g p d r : Bool) → happens graphicsAccess c ≡ g → pointerTime k c ≡ p → dataTime k c ≡ d → happens refresh c ≡ r → length (accesses k c s) ≤ 2
   by-tests true p d r eg ep ed er = rw (lit-accesses k c s eg) (two graphics (happens characterAccess c && s .fills) matrix)
   by-tests false true d r eg ep ed er = rw (pointer-accesses k c s ep) (two pointer (seesTwo k c s) byteTwo)
   by-tests false false true r eg ep ed er = rw (data-accesses k c s ed) (two byteOne (seesZero s) byteZero)
-  by-tests false false false true eg ep ed er = rw (refresh-accesses k c s er) (omega (arith, one (happens characterAccess c && s .fills) matrix))
+  by-tests false false false true eg ep ed er = rw (refresh-accesses k c s er) (two refreshing (happens characterAccess c && s .fills) matrix)
   by-tests false false false false eg ep ed er =
       rw (gap-accesses k c s (record { graphics = eg; pointing = ep; fetching = ed; refresh = er })) (omega (arith, one (onLine k c) idle))
 
   pub at-most-two : length (accesses k c s) ≤ 2
   at-most-two = by-tests (happens graphicsAccess c) (pointerTime k c) (dataTime k c) (happens refresh c) refl refl refl refl
+
+  phases-by-tests : onLine k c ≡ true → (g p d r : Bool) → happens graphicsAccess c ≡ g → pointerTime k c ≡ p → dataTime k c ≡ d → happens refresh c ≡ r → InPhases (accesses k c s)
+  unfolding phase
+  phases-by-tests l true p d r eg ep ed er = rw (lit-accesses k c s eg) (first-then graphics matrix refl refl (happens characterAccess c && s .fills))
+  phases-by-tests l false true d r eg ep ed er = rw (pointer-accesses k c s ep) (first-then pointer byteTwo refl refl (seesTwo k c s))
+  phases-by-tests l false false true r eg ep ed er = rw (data-accesses k c s ed) (first-then byteOne byteZero refl refl (seesZero s))
+  phases-by-tests l false false false true eg ep ed er = rw (refresh-accesses k c s er) (first-then refreshing matrix refl refl (happens characterAccess c && s .fills))
+  phases-by-tests l false false false false eg ep ed er =
+      rw (idle-accesses k c s l (record { graphics = eg; pointing = ep; fetching = ed; refresh = er })) (inl refl)
+
+  pub in-phases : onLine k c ≡ true → InPhases (accesses k c s)
+  in-phases l = phases-by-tests l (happens graphicsAccess c) (pointerTime k c) (dataTime k c) (happens refresh c) refl refl refl refl
+
+-- 02 (xiv): cycles 11 to 14 have the refresh alone; 15 has the matrix after it
+refresh-alone : (k : Kind) (c : ℕ) (s : Seen) → (leb 11 c && leb c 14) ≡ true → accesses k c s ≡ refreshing ∷ []
+unfolding happens
+refresh-alone k c s e =
+    let high : c ≤ 14 = leb-true c 14 (right (leb 11 c) (leb c 14) e) in
+    rw (refresh-accesses k c s (rw (left (leb 11 c) (leb c 14) e, le-leb c 15 (omega arith))), lt-leb 15 c (omega arith))
+
+refresh-then-matrix : (k : Kind) (s : Seen) → accesses k 15 s ≡ refreshing ∷ when (s .fills) matrix
+unfolding happens
+refresh-then-matrix k s = refresh-accesses k 15 s refl
 
 -- ---- the article's diagrams, at the cycles where the two kinds part: the last slot, and the gap between the graphics and sprite 0's pointer
 

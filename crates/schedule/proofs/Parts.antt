@@ -8,7 +8,7 @@ use borrow.Author.Tests.{lt-ltb}
 use Rattle.laws.proofs.Below as Below
 use Rattle.laws.proofs.Choice.{left, right}
 use Rattle.schedule.specs.Kind.{Kind, the6569, the6567R8}
-use Rattle.schedule.specs.Diagram.{happens, lineBegins, frameEnds, vcLoad, accessChosen, characterAccess, graphicsAccess, accessEnds, rowEnds, mcbaseStep, firstPhase, secondPhase, mcLoad, mainRemembered, left40, left38, right38, right40, lineEnds, pointerTime, dataTime, slotSprite, slotAfterBus}
+use Rattle.schedule.specs.Diagram.{happens, lineBegins, frameEnds, refresh, vcLoad, accessChosen, characterAccess, graphicsAccess, accessEnds, rowEnds, mcbaseStep, firstPhase, secondPhase, mcLoad, mainRemembered, left40, left38, right38, right40, lineEnds, pointerTime, dataTime, slotSprite, slotAfterBus}
 use Rattle.schedule.specs.Requests.{maskAt}
 use Rattle.schedule.specs.Machinery.Stretches.{isLater, isPast, isEarly, isBetween, isStill}
 
@@ -56,6 +56,7 @@ pub record Lit (c : ℕ) : Type 0 where
   pub ends : happens rowEnds c ≡ false
   pub inner : happens right38 c ≡ false
   pub outer : happens right40 c ≡ false
+  pub refresh : happens refresh c ≡ false
   pub character : happens characterAccess c ≡ not (happens accessEnds c)
 
 pub lit : (c : ℕ) → happens graphicsAccess c ≡ true → Lit c
@@ -71,6 +72,7 @@ lit c e =
       ends = never g (λ k. happens rowEnds k) tt c b e;
       inner = never g (λ k. happens right38 k) tt c b e;
       outer = never g (λ k. happens right40 k) tt c b e;
+      refresh = never g (λ k. happens refresh k) tt c b e;
       character = alike g (λ k. happens characterAccess k) (λ k. not (happens accessEnds k)) tt c b e;
     }
 

@@ -26,7 +26,7 @@ diagram lineBegins = at 1  -- 01, tick 3: the raster goes on
 diagram frameEnds = at 2  -- 01, tick 4: raster 0 after the last line
 diagram (lineEnds k) = at (lastCycle k)  -- Bauer 3.9 rules 2 and 3: cycle 63; on the 6567R8 the last one too, DECISIONS 73
 -- the memory's refresh
-diagram refresh = from 11 15  -- Bauer 3.6.3: r-accesses, of which no read is reported, DIFFERENCES 16
+diagram refresh = from 11 15  -- Bauer 3.6.3: r-accesses
 -- the matrix and the graphics
 diagram matrixRequest = from 12 54  -- Bauer 3.7.2 rule 3: BA low on a bad line
 diagram vcLoad = at 14  -- Bauer 3.7.2 rule 2

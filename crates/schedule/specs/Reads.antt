@@ -1,4 +1,4 @@
--- The table of reads beside the timing diagram (Bauer 3.6.3, 02 (viii)): which accesses of a cycle memory sees, in order, and why each is made.
+-- The table of reads beside the timing diagram (Bauer 3.6.3, 02 (viii), 02 (xiv)): which accesses of a cycle memory sees, in order, and why each is made.
 -- An access that is not seen reads nothing from memory and is not reported.
 use Prim.Native.Nat.{ℕ}
 use mathlib.Core.Bool.{Bool, not, _&&_, _||_, cond}
@@ -9,7 +9,7 @@ use Rattle.schedule.specs.Diagram.{happens, refresh, characterAccess, gr
 
 pub data Access : Type 0 where
   pointer byteTwo byteOne byteZero : Access  -- a sprite's: its pointer slot has the first two, its data slot the others
-  matrix graphics idle : Access  -- a matrix byte with its colour is one access
+  refreshing matrix graphics idle : Access  -- a matrix byte with its colour is one access
 
 -- what a cycle's accesses go by
 pub record Seen : Type 0 where
@@ -18,7 +18,7 @@ pub record Seen : Type 0 where
   pub moves : Bool  -- display state, and no transition pending
   pub fills : Bool  -- a character access has the bus, and its place is not left pending
 
--- 02 (viii): why an access is made, by number: 1 pointer, 2 sprite byte, 3 matrix, 4 graphics, 5 idle
+-- 02 (viii): why an access is made, by number: 1 pointer, 2 sprite byte, 3 matrix, 4 graphics, 5 idle; 02 (xiv): 6 refresh
 -- without DMA a slot's bytes are read at the idle address, and so is what the graphics access reads in idle state
 unfoldable pub reasonOf : Seen → Access → ℕ
 reasonOf s pointer = 1
@@ -28,6 +28,18 @@ reasonOf s byteZero = cond (s .on) 2 5
 reasonOf s matrix = 3
 reasonOf s graphics = cond (s .moves) 4 5
 reasonOf s idle = 5
+reasonOf s refreshing = 6
+
+-- Bauer 3.6.3, 3.8.1: the half of its cycle that an access is made in; the second half is the CPU's while AEC is high
+unfoldable pub phase : Access → ℕ
+phase pointer = 1
+phase byteTwo = 2
+phase byteOne = 1
+phase byteZero = 2
+phase refreshing = 1
+phase matrix = 2
+phase graphics = 1
+phase idle = 1
 
 -- an access where it is made
 abbrev pub when : Bool → Access → List Access
@@ -50,10 +62,10 @@ slotAccesses k c s =
 abbrev pub idleTime : Kind → ℕ → Bool
 idleTime k c = onLine k c && not (pointerTime k c || dataTime k c || happens refresh c || happens graphicsAccess c)
 
--- the main step's: the graphics or an idle access, then the matrix
+-- the main step's: the refresh, the graphics or an idle access, then the matrix; 02 (xiv): in cycle 15 the refresh before the matrix
 abbrev pub mainAccesses : Kind → ℕ → Seen → List Access
 mainAccesses k c s =
-    when (happens graphicsAccess c) graphics ++ (when (happens characterAccess c && s .fills) matrix ++ when (idleTime k c) idle)
+    when (happens refresh c) refreshing ++ (when (happens graphicsAccess c) graphics ++ (when (happens characterAccess c && s .fills) matrix ++ when (idleTime k c) idle))
 
 -- 02 (viii): the slot's reads come first
 unfoldable pub accesses : Kind → ℕ → Seen → List Access

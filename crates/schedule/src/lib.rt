@@ -6,7 +6,7 @@ ghost use Rattle.schedule.specs.Diagram.{Event, lineBegins, frameEnds, r
 ghost use Rattle.schedule.specs.Requests.{maskAt, spritesIn};
 ghost use Rattle.schedule.specs.Machinery.Places.{placeOf, askingAt, pointingAt, fetchingAt, spriteIn, isCalm};
 ghost use Rattle.schedule.specs.Machinery.Stretches.{isLater, isPast, isEarly, isBetween, isStill, beforeGraphics};
-ghost use Rattle.schedule.specs.Machinery.Reads.{seen, spriteReason, graphicsReason, litReasons, pointerReasons, dataReasons, gapReasons};
+ghost use Rattle.schedule.specs.Machinery.Reads.{seen, spriteReason, graphicsReason, gapReason, litReasons, pointerReasons, dataReasons, gapReasons};
 
 // ---- the kinds of chip
 
@@ -219,6 +219,8 @@ pub const GRAPHICS: u8 = 4;
 
 pub const IDLE: u8 = 5;
 
+pub const REFRESH: u8 = 6;
+
 // A reason where there is a read.
 fn when(go: bool, reason: u8) -> u8
     ensures { λ r. ⌜ r ≡ seen go reason ⌝ }
@@ -244,6 +246,15 @@ fn graphics_reason(moves: bool) -> u8
 {
     if moves {
         return GRAPHICS;
+    }
+    IDLE
+}
+
+fn gap_reason(refreshing: bool) -> u8
+    ensures { λ r. ⌜ r ≡ gapReason refreshing ⌝ }
+{
+    if refreshing {
+        return REFRESH;
     }
     IDLE
 }
@@ -280,11 +291,11 @@ pub fn reasons_data(on: bool, low: bool) -> Reasons
 }
 
 // Of a cycle that has neither a slot nor a graphics access, nor one of the matrix.
-pub fn reasons_gap(cycle: u16) -> Reasons
-    ensures { λ r. ⌜ r ≡ gapReasons cycle ⌝ }
+pub fn reasons_gap(refreshing: bool) -> Reasons
+    ensures { λ r. ⌜ r ≡ gapReasons refreshing ⌝ }
 {
     Reasons {
-        first: when(!refresh(cycle), IDLE),
+        first: gap_reason(refreshing),
         second: 0,
     }
 }

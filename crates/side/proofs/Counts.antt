@@ -97,6 +97,7 @@ quiet g s =
         mask = hasBit (s .sprites .dma) 0;
         mc = spriteAt (s .sprites) 0 .mc;
         low = s .bus .aeclow;
+        refresh = s .refresh;
       };
     }
 

@@ -13,6 +13,7 @@ use Rattle.timing.specs.declared.Beam.{Beam}
 use Rattle.timing.specs.Beam.{nextCycle, beamTurned}
 use Rattle.raster.specs.declared.Swept.{Swept}
 use Rattle.raster.specs.Frame.{swept}
+use Rattle.raster.specs.Refresh.{refreshFrom, refreshAfter}
 use Rattle.border.specs.declared.Border.{Border}
 use Rattle.sprites.specs.declared.Sprite.{Sprite}
 use Rattle.sprites.specs.declared.Sprites.{Sprites}
@@ -28,7 +29,7 @@ use Rattle.side.specs.declared.Turned.{Turned}
 use Rattle.side.specs.Phases.{bordered, phased, slotMoved}
 use Rattle.side.specs.Turn.{turned}
 
-pub turn-glue : (g : Controls) (s : Side) {clk arb bus : Bus} {cycle asking n : ℕ} {asked begins mask after low pointing fetching : Bool} {sweep : Swept} {beam : Beam} {border : Border} {ph spr : Sprites} {sprite : Sprite} {now : Rowed} {pending : Waits}
+pub turn-glue : (g : Controls) (s : Side) {clk arb bus : Bus} {cycle asking n counter refresh : ℕ} {asked begins mask after low pointing fetching : Bool} {sweep : Swept} {beam : Beam} {border : Border} {ph spr : Sprites} {sprite : Sprite} {now : Rowed} {pending : Waits}
     → clk ≡ clocked 1 (s .bus)
     → cycle ≡ nextCycle (kindOf (s .beam .kind)) (s .beam .cycle)
     → sweep ≡ swept (kindOf (s .beam .kind)) (s .frame) (s .irq) cycle (s .beam .raster) (g .compare) (g .den) (s .beam .latch)
@@ -50,6 +51,8 @@ pub turn-glue : (g : Controls) (s : Side) {clk arb bus : Bus} {cycle asking n : 
     → low ≡ pick after (bus .aeclow) (s .bus .aeclow)
     → now ≡ rowed cycle (beam .bad) (beam .rising) (sweep .wraps) (s .rows)
     → pending ≡ pendingAfter (now .fetches && not (bus .aeclow)) (now .rows .vmli) (s .pending)
+    → counter ≡ refreshFrom (sweep .wraps) (s .refresh)
+    → refresh ≡ refreshAfter cycle counter
     → _≡_ {A = Turned} (record {
       side = record {
         irq = sweep .irq;
@@ -61,6 +64,7 @@ pub turn-glue : (g : Controls) (s : Side) {clk arb bus : Bus} {cycle asking n : 
         rows = now .rows;
         pending = pending;
         changed = sweep .irq .line;
+        refresh = refresh;
       };
       orders = record {
         cycle = cycle;
@@ -81,8 +85,9 @@ pub turn-glue : (g : Controls) (s : Side) {clk arb bus : Bus} {cycle asking n : 
         mask = mask;
         mc = sprite .mc;
         low = low;
+        refresh = counter;
       };
     }) (turned g s)
 unfolding turned
-turn-glue g s clk cycle sweep border ph beam asking asked arb begins bus n pointing fetching sprite mask spr after low now pending =
-    rw (← clk, ← cycle, ← sweep, ← border, ← ph, ← beam, ← asking, ← asked, ← arb, ← begins, ← bus, ← n, ← pointing, ← fetching, ← sprite, ← mask, ← spr, ← after, ← low, ← now, ← pending)
+turn-glue g s clk cycle sweep border ph beam asking asked arb begins bus n pointing fetching sprite mask spr after low now pending counter refresh =
+    rw (← clk, ← cycle, ← sweep, ← border, ← ph, ← beam, ← asking, ← asked, ← arb, ← begins, ← bus, ← n, ← pointing, ← fetching, ← sprite, ← mask, ← spr, ← after, ← low, ← now, ← pending, ← counter, ← refresh)

@@ -17,7 +17,7 @@ use Rattle.registers.specs.declared.Controls.{Controls}
 use Rattle.timing.specs.declared.Beam.{Beam}
 use Rattle.timing.specs.Beam.{nextCycle, latched, beamTurned}
 use Rattle.timing.proofs.Kept.{cycle-low, cycle-high, before-graphics}
-use Rattle.raster.proofs.Laws.{swept-later}
+use Rattle.raster.proofs.Laws.{swept-later, refresh-rests}
 use Rattle.border.specs.declared.Border.{Border}
 use Rattle.sprites.specs.declared.Sprite.{Sprite}
 use Rattle.sprites.specs.declared.Sprites.{Sprites}
@@ -102,6 +102,7 @@ pub lit-glue : (g : Controls) (s : Side) {clk arb bus : Bus} {cycle : ℕ} {latc
         rows = now .rows;
         pending = pending;
         changed = s .irq .line;
+        refresh = s .refresh;
       };
       orders = record {
         cycle = cycle;
@@ -122,8 +123,9 @@ pub lit-glue : (g : Controls) (s : Side) {clk arb bus : Bus} {cycle : ℕ} {latc
         mask = mask;
         mc = sprite .mc;
         low = s .bus .aeclow;
+        refresh = s .refresh;
       };
     }) (turned g s)
 unfolding turned slotMoved
 lit-glue g s {bus = bus'} {cycle = cycle'} l o clk cycle latch border ph beam asked arb bus sprite mask now pending =
-    rw (← clk, ← cycle, ← swept-later (kindOf (s .beam .kind)) (s .frame) (s .irq) cycle' (s .beam .raster) (g .compare) (g .den) (s .beam .latch) (record { begins = l .begins; wraps = l .wraps }), ← latch, ← border, ← ph, ← beam, ← asked, ← arb, l .begins, ← bus, o .sprite, o .pointing, o .fetching, o .after, ← sprite, ← mask, picks false (bus' .aeclow) (s .bus .aeclow), ← now, ← pending)
+    rw (← clk, ← cycle, ← swept-later (kindOf (s .beam .kind)) (s .frame) (s .irq) cycle' (s .beam .raster) (g .compare) (g .den) (s .beam .latch) (record { begins = l .begins; wraps = l .wraps }), ← latch, ← border, ← ph, ← beam, ← asked, ← arb, l .begins, ← bus, o .sprite, o .pointing, o .fetching, o .after, ← sprite, ← mask, picks false (bus' .aeclow) (s .bus .aeclow), ← now, ← pending, picks false 0xFF (s .refresh), refresh-rests cycle' (s .refresh) (l .refresh))

@@ -13,6 +13,7 @@ use Rattle.timing.specs.Beam.{nextCycle, beamTurned}
 use Rattle.timing.specs.Beam as Beams
 use Rattle.raster.specs.Frame.{swept}
 use Rattle.raster.specs.Frame as Frames
+use Rattle.raster.specs.Refresh.{refreshFrom, refreshAfter}
 use Rattle.border.specs.Border as Borders
 use Rattle.sprites.specs.Sprites.{allFresh, spriteAt}
 use Rattle.arbitration.specs.Bus.{clocked, requested, arbitrated, counted}
@@ -38,6 +39,8 @@ freshSide kind =
       rows = Rows.fresh;
       pending = waits Nothing;
       changed = false;
+      -- 02 (xiv)
+      refresh = 0xFF;
     }
 
 unfoldable pub turned : Controls → Side → Turned
@@ -61,6 +64,8 @@ turned g s =
     let fetching = dataTime k cycle in
     -- tick 8: the row counters
     let now = rowed cycle (beam .bad) (beam .rising) (sweep .wraps) (s .rows) in
+    -- 02 (xiv): the refresh counter, which an access of this cycle reads at before it goes one down
+    let counter = refreshFrom (sweep .wraps) (s .refresh) in
     record {
       side = record {
         irq = sweep .irq;
@@ -73,6 +78,7 @@ turned g s =
         pending = pendingAfter (now .fetches && not (bus .aeclow)) (now .rows .vmli) (s .pending);
         -- tick 10: IRQ-changed copies the line
         changed = sweep .irq .line;
+        refresh = refreshAfter cycle counter;
       };
       orders = record {
         cycle = cycle;
@@ -94,5 +100,6 @@ turned g s =
         mc = spriteAt sprites n .mc;
         -- tick 5 and 8: most slots come before their cycle's arbitration
         low = pick (slotAfterBus k cycle) (bus .aeclow) (s .bus .aeclow);
+        refresh = counter;
       };
     }

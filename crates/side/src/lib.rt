@@ -34,6 +34,8 @@ pub struct Side {
     pub pending: Waits,
     // the interrupt line as the last tick left it
     pub changed: bool,
+    // the refresh counter; last, where it costs a run of ticks least
+    pub refresh: u8,
 }
 
 // What the timing side tells the picture to do in a cycle: numbers and no picture value.
@@ -56,6 +58,8 @@ pub struct Orders {
     pub mask: bool,
     pub mc: u8,
     pub low: bool,
+    // the refresh counter as a refresh access of this cycle finds it
+    pub refresh: u8,
 }
 
 pub struct Turned {
@@ -332,6 +336,7 @@ impl Side {
             rows: rows,
             pending: pending,
             changed: false,
+            refresh: 255,
         }
     }
 }
@@ -394,6 +399,7 @@ pub fn turn_lit(side: Side, g: Controls) -> Turned
         mask: mask,
         mc: sprite.mc,
         low: bus0.aeclow,
+        refresh: side.refresh,
     };
     let next = Side {
         irq: irq0,
@@ -405,6 +411,7 @@ pub fn turn_lit(side: Side, g: Controls) -> Turned
         rows: rows,
         pending: pending,
         changed: irq0.line,
+        refresh: side.refresh,
     };
     Turned {
         side: next,
@@ -470,6 +477,8 @@ pub fn turn_dark(side: Side, g: Controls) -> Turned
     let rowed = rows::turn_dark(rows0, cycle, beam.bad, beam.rising, swept.wraps);
     let rows = rowed.rows;
     let pending = rows::next_pending(rowed.fetches & !bus.aeclow, rows.vmli, pending0);
+    let counter = raster::refresh_from(swept.wraps, side.refresh);
+    let refresh = raster::refresh_after(cycle, counter);
     let orders = Orders {
         cycle: cycle,
         graphics: rowed.graphics,
@@ -489,6 +498,7 @@ pub fn turn_dark(side: Side, g: Controls) -> Turned
         mask: mask,
         mc: sprite.mc,
         low: low,
+        refresh: counter,
     };
     let next = Side {
         irq: irq,
@@ -500,6 +510,7 @@ pub fn turn_dark(side: Side, g: Controls) -> Turned
         rows: rows,
         pending: pending,
         changed: irq.line,
+        refresh: refresh,
     };
     Turned {
         side: next,

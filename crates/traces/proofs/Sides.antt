@@ -1,5 +1,5 @@
 -- The sides before the traced lines, worked out one from the other. They are written out, since a trace from a long run would work the run again for each of its ticks.
-use Prim.Native.Nat.{ℕ, zero, suc, _+_, _*_}
+use Prim.Native.Nat.{ℕ, zero, suc, _+_, _-_, _*_, _%_}
 use native.Mathlib.Nat.{zero-add, suc-add}
 use mathlib.Core.Path.{_≡_, refl, ap, _∙_}
 use mathlib.Core.Bool.{Bool, true, false}
@@ -26,6 +26,7 @@ use Rattle.rows.specs.declared.Pending.the-variants.{Nothing}
 use Rattle.rows.specs.declared.Rows.{Rows}
 use Rattle.side.specs.declared.Side.{Side}
 use Rattle.raster.specs.Frame as Frames
+use Rattle.raster.specs.Refresh.{lessBy, refreshAfter}
 use Rattle.rows.specs.Rows as Rows
 use Rattle.side.specs.Phases as Phases
 use Rattle.registers.specs.declared.Controls.{Controls}
@@ -75,7 +76,7 @@ warned clock fall rise = aec≔ (pos 0) (balow≔ true (lost≔ 6 (free clock fa
 abbrev row : ℕ → ℕ → ℕ → ℕ → Bool → Rows
 row vc vcbase rc vmli display = record { vc = vc; vcbase = vcbase; rc = rc; vmli = vmli; display = display; transition = false; access = false }
 
--- the end of a line
+-- the end of a line; five refresh accesses on it and on each before it
 abbrev pastOf : ℕ → ℕ → ℕ → Bool → Border → Sprites → Bus → Rows → Side
 pastOf kind line flags latch border sprites bus rows =
     record {
@@ -88,6 +89,7 @@ pastOf kind line flags latch border sprites bus rows =
       rows = rows;
       pending = waits Nothing;
       changed = false;
+      refresh = (0xFF + (0x100 - 5) * (line + 1)) % 0x100;
     }
 
 -- of a 6569
@@ -140,7 +142,7 @@ before8-59 =
 
 -- one tick, with all that it computes with: to unfold this is to unfold them
 unfoldable pub ticked : Controls → Side → Side
-unfolding kindOf slotAfterBus hasBit withBit withoutBit pick asked settled triggered happens pointerTime dataTime slotSprite maskAt Beams.badLine Beams.baOutput Beams.nextCycle Beams.atLastLine Beams.nextLine Beams.fresh Beams.latched Beams.beamTurned Borders.compared Borders.switched Borders.lineBegun Borders.lineEnded Borders.opened Borders.leftPassed Borders.leftPart Borders.left40Passed Borders.left38Passed Borders.right38Passed Borders.right40Passed Sprites.fresh Sprites.allFresh Sprites.spriteAt Sprites.upTo Sprites.crunched Sprites.nextBase Sprites.maskAfter Sprites.stepOne Sprites.mcbaseStepped Sprites.dmaBegun Sprites.startOne Sprites.started Sprites.firstPhased Sprites.secondPhased Sprites.loadOne Sprites.loaded Sprites.showOne Sprites.shown Sprites.mcLoaded Sprites.fetched Buses.fresh Buses.clockOn Buses.clocked Buses.spriteAsks Buses.requested Buses.aecAfter Buses.low Buses.arbitrated Buses.lostAfter Buses.counted pendingAfter Frames.fresh Frames.matchRaises Frames.rasterBegun Frames.frameBegun Frames.frameEnded Frames.raised Frames.swept Rows.fresh Rows.vcAfter Rows.vmliAfter Rows.rcAfter Rows.accessAfter Rows.displayAfter Rows.rowed Phases.beginAt Phases.left40At Phases.left38At Phases.right38At Phases.right40At Phases.rememberAt Phases.endAt Phases.bordered Phases.stepAt Phases.firstAt Phases.secondAt Phases.loadAt Phases.phased Phases.slotMoved freshSide turned
+unfolding kindOf slotAfterBus hasBit withBit withoutBit pick asked settled triggered happens pointerTime dataTime slotSprite maskAt Beams.badLine Beams.baOutput Beams.nextCycle Beams.atLastLine Beams.nextLine Beams.fresh Beams.latched Beams.beamTurned Borders.compared Borders.switched Borders.lineBegun Borders.lineEnded Borders.opened Borders.leftPassed Borders.leftPart Borders.left40Passed Borders.left38Passed Borders.right38Passed Borders.right40Passed Sprites.fresh Sprites.allFresh Sprites.spriteAt Sprites.upTo Sprites.crunched Sprites.nextBase Sprites.maskAfter Sprites.stepOne Sprites.mcbaseStepped Sprites.dmaBegun Sprites.startOne Sprites.started Sprites.firstPhased Sprites.secondPhased Sprites.loadOne Sprites.loaded Sprites.showOne Sprites.shown Sprites.mcLoaded Sprites.fetched Buses.fresh Buses.clockOn Buses.clocked Buses.spriteAsks Buses.requested Buses.aecAfter Buses.low Buses.arbitrated Buses.lostAfter Buses.counted pendingAfter Frames.fresh Frames.matchRaises Frames.rasterBegun Frames.frameBegun Frames.frameEnded Frames.raised Frames.swept lessBy refreshAfter Rows.fresh Rows.vcAfter Rows.vmliAfter Rows.rcAfter Rows.accessAfter Rows.displayAfter Rows.rowed Phases.beginAt Phases.left40At Phases.left38At Phases.right38At Phases.right40At Phases.rememberAt Phases.endAt Phases.bordered Phases.stepAt Phases.firstAt Phases.secondAt Phases.loadAt Phases.phased Phases.slotMoved freshSide turned
 ticked g s = turned g s .side
 
 -- each from the one before

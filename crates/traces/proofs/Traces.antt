@@ -4,7 +4,7 @@ use mathlib.Core.Path.{_≡_, refl, ap, _∙_}
 use mathlib.Core.Bool.{cond}
 use lib.Dec.{eqb}
 use Rattle.side.specs.declared.Side.{Side}
-use Rattle.traces.specs.Traces.{begunOf, begun, lines, lines8, rowOf, oneOf, rasterOf, flagsOf, latchOf, busOf, borderOf, TracesOf, Traces, TracesOf8, Traces8}
+use Rattle.traces.specs.Traces.{begunOf, begun, lines, lines8, rowOf, oneOf, rasterOf, flagsOf, latchOf, refreshOf, refreshReads, busOf, borderOf, TracesOf, Traces, TracesOf8, Traces8}
 use Rattle.traces.proofs.Sides.{ticked, before-47, before-50, before-51, before-59, before-66, before-72, before-250, before-312, before8-51, before8-59, reached-47, reached-50, reached-51, reached-59, reached-66, reached-72, reached-250, reached-312, reached8-51, reached8-59}
 
 -- the sides before the traced lines
@@ -38,6 +38,11 @@ computed =
       bus = refl;
       vcbase-312 = refl;
       latch-312 = refl;
+      refresh-51 = refl;
+      refresh-312 = refl;
+      refresh-reads-0 = refl;
+      refresh-reads-51 = refl;
+      refresh-reads-312 = refl;
     }
 
 seen : {A : Type 0} (see : Side → A) {s t : Side} {e : A} → s ≡ t → see t ≡ e → see s ≡ e
@@ -61,6 +66,11 @@ traces =
       bus = seen (λ s. busOf (lines 2 s)) reached-59 (computed .bus);
       vcbase-312 = seen (λ s. rowOf (lines 1 s) .vcbase) reached-312 (computed .vcbase-312);
       latch-312 = seen (λ s. latchOf (lines 1 s)) reached-312 (computed .latch-312);
+      refresh-51 = seen (λ s. refreshOf (lines 2 s)) reached-50 (computed .refresh-51);
+      refresh-312 = seen (λ s. refreshOf (lines 1 s)) reached-312 (computed .refresh-312);
+      refresh-reads-0 = computed .refresh-reads-0;
+      refresh-reads-51 = seen (refreshReads 63) reached-51 (computed .refresh-reads-51);
+      refresh-reads-312 = seen (refreshReads 63) reached-312 (computed .refresh-reads-312);
     }
 
 -- the 6567R8
@@ -69,12 +79,13 @@ known8 n = cond (eqb n 0) (begunOf 1) (cond (eqb n 51) before8-51 before8-59)
 
 computed8 : TracesOf8 known8
 unfolding ticked
-computed8 = record { raster-0 = refl; sprite-plain = refl; sprite-expanded = refl; bus = refl }
+computed8 = record { raster-0 = refl; refresh-reads-0 = refl; sprite-plain = refl; sprite-expanded = refl; bus = refl }
 
 pub traces8 : Traces8
 traces8 =
     record {
       raster-0 = computed8 .raster-0;
+      refresh-reads-0 = computed8 .refresh-reads-0;
       sprite-plain = seen (λ s. oneOf 0 (lines8 2 s)) reached8-51 (computed8 .sprite-plain);
       sprite-expanded = seen (λ s. oneOf 3 (lines8 3 s)) reached8-51 (computed8 .sprite-expanded);
       bus = seen (λ s. busOf (lines8 2 s)) reached8-59 (computed8 .bus);

@@ -1,11 +1,13 @@
 -- Traces: what the definition of the tick, `turned`, leaves in each cycle of some lines of a run from power-up.
 -- `turned` stands close to the code. This is what it comes to, to be counted along the article: the rule is beside each place where a value changes.
 use mathlib.Core.Path.{_≡_}
-use mathlib.Core.Bool.{Bool, true, false}
+use mathlib.Core.Bool.{Bool, true, false, cond}
 use mathlib.Core.List.{List, [], _∷_, _++_}
 use Prim.Native.Nat.{ℕ, zero, suc, _+_, _-_, _*_}
 use lib.ListN.{replicate}
 use Rattle.laws.specs.Bits.{hasBit}
+use Rattle.schedule.specs.Diagram.{happens, refresh}
+use Rattle.raster.specs.Refresh.{refreshAddress}
 use Rattle.border.specs.Border.{compared}
 use Rattle.sprites.specs.Sprites.{spriteAt}
 use Rattle.side.specs.declared.Side.{Side}
@@ -60,6 +62,10 @@ abbrev pub rising : ℕ → ℕ → ℕ → List (ℕ × ℕ)
 rising zero c v = []
 rising (suc n) c v = (c, v) ∷ rising n (c + 1) (v + 1)
 
+abbrev pub falling : ℕ → ℕ → ℕ → List (ℕ × ℕ)
+falling zero c v = []
+falling (suc n) c v = (c, v) ∷ falling n (c + 1) (v - 1)
+
 -- from cycle a to cycle e the value v
 abbrev pub holds : {A : Type 0} → ℕ → ℕ → A → List (ℕ × A)
 holds a e v = staying (e + 1 - a) a v
@@ -67,6 +73,10 @@ holds a e v = staying (e + 1 - a) a v
 -- from cycle a to cycle e the values v, v + 1, v + 2 ..
 abbrev pub counts : ℕ → ℕ → ℕ → List (ℕ × ℕ)
 counts a e v = rising (e + 1 - a) a v
+
+-- from cycle a to cycle e the values v, v − 1, v − 2 ..
+abbrev pub countsDown : ℕ → ℕ → ℕ → List (ℕ × ℕ)
+countsDown a e v = falling (e + 1 - a) a v
 
 -- BA and AEC
 abbrev pub low : Bool
@@ -125,6 +135,18 @@ flagsOf sides = column (λ s. s .irq .flags) sides
 
 abbrev pub latchOf : List Side → List (ℕ × Bool)
 latchOf sides = column (λ s. s .beam .latch) sides
+
+-- the refresh counter
+abbrev pub refreshOf : List Side → List (ℕ × ℕ)
+refreshOf sides = column (λ s. s .refresh) sides
+
+-- where the refresh accesses of the next n ticks read, each with its cycle
+abbrev pub refreshReads : ℕ → Side → List (ℕ × ℕ)
+refreshReads zero s = []
+refreshReads (suc n) s =
+    let t = turned (screen 51) s in
+    let rest = refreshReads n (t .side) in
+    cond (happens refresh (t .orders .cycle)) ((t .orders .cycle, refreshAddress (t .orders .refresh)) ∷ rest) rest
 
 -- BA and AEC; the vertical and the main border flip-flop
 abbrev pub busOf : List Side → List (ℕ × (Bool × Bool))
@@ -286,6 +308,33 @@ pub record TracesOf (before : ℕ → Side) : Type 0 where
       latchOf (lines 1 (before 312)) ≡
       holds 1 1 on
       ++ holds 2 63 off  -- Bauer 3.5: once a frame; DIFFERENCES 8: in cycle 2
+  -- Lines 50 and 51, and line 0 of the second frame: the refresh counter
+  pub refresh-51 :
+      refreshOf (lines 2 (before 50)) ≡
+      holds 1 10 5
+      ++ countsDown 11 15 4  -- Bauer 3.13: one less after each of the five r-accesses
+      ++ holds 16 63 0
+      ++ holds 1 10 0
+      ++ countsDown 11 15 0xFF  -- 02 (xiv): 0 is followed by 0xFF
+      ++ holds 16 63 0xFB
+  pub refresh-312 :
+      refreshOf (lines 1 (before 312)) ≡
+      holds 1 1 0xE7
+      ++ holds 2 10 0xFF  -- Bauer 3.13: once a frame; 02 (xiv): in cycle 2
+      ++ countsDown 11 15 0xFE
+      ++ holds 16 63 0xFA
+  -- Lines 0 and 1, line 51, and line 0 of the second frame: the refresh accesses
+  pub refresh-reads-0 :
+      refreshReads (63 * 2) (before 0) ≡
+      countsDown 11 15 0x3FFF  -- Bauer 3.13: line 0 has 0x3FFF to 0x3FFB
+      ++ countsDown 11 15 0x3FFA  -- and line 1 0x3FFA to 0x3FF6
+  pub refresh-reads-51 :
+      refreshReads 63 (before 51) ≡
+      holds 11 11 0x3F00
+      ++ countsDown 12 15 0x3FFF  -- 02 (xiv): 0 is followed by 0xFF
+  pub refresh-reads-312 :
+      refreshReads 63 (before 312) ≡
+      countsDown 11 15 0x3FFF  -- Bauer 3.13: line 0 again
 
 abbrev pub Traces : Type 0
 Traces = TracesOf fromPowerUp
@@ -305,6 +354,11 @@ pub record TracesOf8 (before : ℕ → Side) : Type 0 where
       rasterOf (lines8 1 (before 0)) ≡
       holds 1 1 262  -- Bauer 3.4: line 262 is the last; DIFFERENCES 8: it stays for cycle 1
       ++ holds 2 65 0
+  -- Lines 0 and 1: the refresh accesses
+  pub refresh-reads-0 :
+      refreshReads (65 * 2) (before 0) ≡
+      countsDown 11 15 0x3FFF  -- Bauer 3.13, as on the 6569
+      ++ countsDown 11 15 0x3FFA
   -- Lines 51 and 52: sprite 0, pointer and first byte in cycle 59, two bytes in 60
   pub sprite-plain :
       oneOf 0 (lines8 2 (before 51)) ≡ record {

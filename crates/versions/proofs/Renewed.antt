@@ -56,7 +56,9 @@ third-bytes s b = either Bytes (isFlagged s) (unflagged-bytes s b) b
 
 pub renewed-bytes : (s : List ℕ) → Bytes s → Bytes (renewed s)
 unfolding renewed
-renewed-bytes s b = next-bytes 3 309 _ _ (omega arith) (omega arith) (third-bytes _ (next-bytes 1 308 _ s (omega arith) (omega arith) b))
+renewed-bytes s b =
+    next-bytes 4 310 _ _ (omega arith) (omega arith)
+    (next-bytes 3 309 _ _ (omega arith) (omega arith) (third-bytes _ (next-bytes 1 308 _ s (omega arith) (omega arith) b)))
 
 pub has-size : (v size : ℕ) (s : List ℕ) → isVersion v size s ≡ true → length s ≡ size
 has-size v size s e = eqb-true (length s) size (left (eqb (length s) size) (eqb (byteAt s 3) v) e)
@@ -74,15 +76,50 @@ unfolding third isFlagged
 third-other s ne = rw (ne-eqb (length s) 309 ne)
 
 -- renewing the newest is the identity, whatever bytes an older one gets
-newest-stays : (kind lost : ℕ) (s : List ℕ) → length s ≡ 310 → next 3 309 lost (third (next 1 308 kind s)) ≡ s
-newest-stays kind lost s size =
-    ap (λ (l : List ℕ). next 3 309 lost (third l)) (next-other 1 308 kind s (λ (f : length s ≡ 308). omega arith))
-    ∙ ap (next 3 309 lost) (third-other s (λ (f : length s ≡ 309). omega arith))
-    ∙ next-other 3 309 lost s (λ (f : length s ≡ 309). omega arith)
+newest-stays : (kind lost refresh : ℕ) (s : List ℕ) → length s ≡ 311 → next 4 310 refresh (next 3 309 lost (third (next 1 308 kind s))) ≡ s
+newest-stays kind lost refresh s size =
+    ap (λ (l : List ℕ). next 4 310 refresh (next 3 309 lost (third l))) (next-other 1 308 kind s (λ (f : length s ≡ 308). omega arith))
+    ∙ ap (λ (l : List ℕ). next 4 310 refresh (next 3 309 lost l)) (third-other s (λ (f : length s ≡ 309). omega arith))
+    ∙ ap (next 4 310 refresh) (next-other 3 309 lost s (λ (f : length s ≡ 309). omega arith))
+    ∙ next-other 4 310 refresh s (λ (f : length s ≡ 310). omega arith)
 
 pub renewed-newest : (s : List ℕ) → isNewest s ≡ true → renewed s ≡ s
 unfolding renewed
-renewed-newest s e = newest-stays _ _ s (has-size 4 310 s e)
+renewed-newest s e = newest-stays _ _ _ s (has-size 5 311 s e)
+
+-- ---- what a byte more leaves
+
+front-stays : (s : List ℕ) (more i : ℕ) → i < length s → byteAt (s ++ (more ∷ [])) i ≡ byteAt s i
+front-stays [] more i h = absurd (omega arith)
+front-stays (x ∷ s) more zero h = refl
+front-stays (x ∷ s) more (suc i) h = front-stays s more i (omega arith)
+
+-- each byte behind the version's number stays
+pub next-keeps : (v size more : ℕ) (s : List ℕ) (i : ℕ) → 3 < i → i < size → byteAt (next v size more s) i ≡ byteAt s i
+unfolding next
+next-keeps v size more s i h k =
+    by-test (λ (l : List ℕ). byteAt l i ≡ byteAt s i) (isVersion v size s)
+    (λ e. getD-set-other (s ++ (more ∷ [])) 3 i (v + 1) 0 (λ (f : i ≡ 3). omega arith) ∙ front-stays s more i (omega (arith, k, has-size v size s e)))
+    (λ e. refl)
+
+next-last : (v size more : ℕ) (s : List ℕ) → 3 < size → isVersion v size s ≡ true → byteAt (next v size more s) size ≡ more
+unfolding next
+next-last v size more s h e = rw e (grown-last (v + 1) more s size h (has-size v size s e))
+
+-- what is no longer than a later version stays so
+next-most : (v size more n : ℕ) (s : List ℕ) → size < n → length s ≤ n → length (next v size more s) ≤ n
+unfolding next
+next-most v size more n s h short =
+    by-test (λ (l : List ℕ). length l ≤ n) (isVersion v size s) (λ e. omega (arith, h, grown-long (v + 1) more s, has-size v size s e)) (λ e. short)
+
+-- what has got longer was of the version
+next-was : (v size more : ℕ) (s : List ℕ) → length s ≤ size → length (next v size more s) ≡ size + 1 → isVersion v size s ≡ true
+unfolding next
+next-was v size more s short long =
+    by-test (λ (l : List ℕ). length l ≡ size + 1 → isVersion v size s ≡ true) (isVersion v size s)
+    (λ e f. e)
+    (λ e f. absurd (omega (arith, f, short)))
+    long
 
 -- ---- what the loss of the flags leaves
 
@@ -107,24 +144,11 @@ pub third-long : (s : List ℕ) → length (third s) ≡ length s
 unfolding third
 third-long s = either (λ (l : List ℕ). length l ≡ length s) (isFlagged s) (unflagged-long s) refl
 
--- ---- what the number of lost cycles leaves
-
-grown-308 : (lost : ℕ) (s : List ℕ) → length s ≡ 309 → byteAt (grown 4 lost s) 308 ≡ byteAt s 308
-grown-308 lost s h = ap (λ (l : List ℕ). byteAt (grown 4 lost l) 308) (sym (front-listed 0 s 309 (omega arith)))
-
-fourth-308 : (lost : ℕ) (s : List ℕ) → length s ≡ 309 → byteAt (next 3 309 lost s) 308 ≡ byteAt s 308
-unfolding next
-fourth-308 lost s h = either (λ (l : List ℕ). byteAt l 308 ≡ byteAt s 308) (isVersion 3 309 s) (grown-308 lost s h) refl
-
-pub fourth-71 : (s : List ℕ) → length s ≡ 309 → byteAt (next 3 309 0 s) 71 ≡ byteAt s 71
-unfolding next
-fourth-71 s h =
-    either (λ (l : List ℕ). byteAt l 71 ≡ byteAt s 71) (isVersion 3 309 s)
-    (ap (λ (l : List ℕ). byteAt (grown 4 0 l) 71) (sym (front-listed 0 s 309 (omega arith)))) refl
-
 third-308 : (s : List ℕ) → length s ≡ 309 → byteAt (third s) 308 ≡ byteAt s 308
 unfolding third
 third-308 s h = either (λ (l : List ℕ). byteAt l 308 ≡ byteAt s 308) (isFlagged s) (unflagged-308 s h) refl
+
+-- ---- what an older scene gets
 
 first-grows : (s : List ℕ) → isVersion 1 308 s ≡ true → next 1 308 0 s ≡ grown 2 0 s
 unfolding next
@@ -138,22 +162,36 @@ first-is-6569 s v =
     let second : List ℕ = grown 2 0 s in
     let long : length second ≡ 309 = has-size 2 309 second (grown-is 2 0 s 309 (omega arith) (omega arith)) in
     let last : byteAt second 308 ≡ 0 = grown-last 2 0 s 308 (omega arith) size in
-    rw (first-grows s v) (fourth-308 _ (third second) (third-long second ∙ long) ∙ third-308 second long ∙ last)
+    rw (first-grows s v)
+    (next-keeps 4 310 _ _ 308 (omega arith) (omega arith) ∙ next-keeps 3 309 _ (third second) 308 (omega arith) (omega arith) ∙ third-308 second long ∙ last)
 
--- what is shorter than the newest stays shorter up to version 3
-second-most : (s : List ℕ) → length s ≤ 309 → length (next 1 308 0 s) ≤ 309
-unfolding next
-second-most s short = by-test (λ (l : List ℕ). length l ≤ 309) (isVersion 1 308 s) (λ e. omega (arith, grown-long 2 0 s, has-size 1 308 s e)) (λ e. short)
+-- what is no longer than version 3, or a later one, stays so up to version 3
+third-most : (kind n : ℕ) (s : List ℕ) → 308 < n → length s ≤ n → length (third (next 1 308 kind s)) ≤ n
+third-most kind n s h short = omega (arith, third-long (next 1 308 kind s), next-most 1 308 kind n s h short)
 
-fourth-lost : (s : List ℕ) → length s ≤ 309 → isNewest (next 3 309 0 s) ≡ true → byteAt (next 3 309 0 s) 309 ≡ 0
-unfolding next
-fourth-lost s short new =
-    by-test (λ (l : List ℕ). isNewest l ≡ true → byteAt l 309 ≡ 0) (isVersion 3 309 s)
-    (λ e f. grown-last 4 0 s 309 (omega arith) (has-size 3 309 s e))
-    (λ e f. absurd (omega (arith, has-size 4 310 s f, short)))
-    new
+-- what is newest in the end was version 4 before it got its refresh counter
+was-fourth : (refresh : ℕ) (s : List ℕ) → length s ≤ 310 → isNewest (next 4 310 refresh s) ≡ true → isVersion 4 310 s ≡ true
+was-fourth refresh s short new = next-was 4 310 refresh s short (has-size 5 311 (next 4 310 refresh s) new)
+
+fourth-lost : (lost refresh : ℕ) (s : List ℕ) → length s ≤ 309 → isNewest (next 4 310 refresh (next 3 309 lost s)) ≡ true → byteAt (next 4 310 refresh (next 3 309 lost s)) 309 ≡ lost
+fourth-lost lost refresh s short new =
+    let fourth = next 3 309 lost s in
+    let most : length fourth ≤ 310 = next-most 3 309 lost 310 s (omega arith) (omega (arith, short)) in
+    let long : length fourth ≡ 310 = has-size 4 310 fourth (was-fourth refresh fourth most new) in
+    next-keeps 4 310 refresh fourth 309 (omega arith) (omega arith) ∙ next-last 3 309 lost s (omega arith) (next-was 3 309 lost s short long)
+
+fifth-refresh : (lost refresh : ℕ) (s : List ℕ) → length s ≤ 310 → isNewest (next 4 310 refresh (next 3 309 lost s)) ≡ true → byteAt (next 4 310 refresh (next 3 309 lost s)) 310 ≡ refresh
+fifth-refresh lost refresh s short new =
+    let fourth = next 3 309 lost s in
+    let most : length fourth ≤ 310 = next-most 3 309 lost 310 s (omega arith) short in
+    next-last 4 310 refresh fourth (omega arith) (was-fourth refresh fourth most new)
 
 -- 02 (xi): an older scene's line has lost no cycle
 pub older-has-lost-none : (s : List ℕ) → length s ≤ 309 → isNewest (renewed s) ≡ true → byteAt (renewed s) 309 ≡ 0
 unfolding renewed
-older-has-lost-none s short new = fourth-lost (third (next 1 308 0 s)) (omega (arith, third-long (next 1 308 0 s), second-most s short)) new
+older-has-lost-none s short new = fourth-lost 0 _ _ (third-most _ 309 s (omega arith) short) new
+
+-- 02 (xiv): an older scene's refresh counter is a frame's first
+pub older-counts-from-ff : (s : List ℕ) → length s ≤ 310 → isNewest (renewed s) ≡ true → byteAt (renewed s) 310 ≡ 255
+unfolding renewed
+older-counts-from-ff s short new = fifth-refresh _ 255 _ (third-most _ 310 s (omega arith) short) new

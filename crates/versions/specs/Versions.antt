@@ -1,4 +1,4 @@
--- The versions of a scene. Writing writes the newest, 4; an older scene is renewed, and then read as the newest is.
+-- The versions of a scene. Writing writes the newest, 5; an older scene is renewed, and then read as the newest is.
 use Prim.Native.Nat.{ℕ, _+_, _<_}
 use mathlib.Core.Bool.{Bool, _&&_, cond}
 use mathlib.Core.List.{List, [], _∷_, _++_}
@@ -22,7 +22,7 @@ abbrev pub isVersion : ℕ → ℕ → List ℕ → Bool
 isVersion v size s = eqb (length s) size && eqb (byteAt s 3) v
 
 abbrev pub isNewest : List ℕ → Bool
-isNewest s = isVersion 4 310 s
+isNewest s = isVersion 5 311 s
 
 -- old offsets do not move: the same bytes under another number, and one more at the end
 abbrev pub grown : ℕ → ℕ → List ℕ → List ℕ
@@ -53,6 +53,7 @@ unflagged s = cleared (79 ∷ 91 ∷ 103 ∷ 115 ∷ 127 ∷ 139 ∷ 151 ∷ 163
 unfoldable pub third : List ℕ → List ℕ
 third s = cond (isFlagged s) (unflagged s) s
 
--- 02 (iv): version 1 has no kind, and gets the 6569's; 02 (xi): up to version 3 no lost cycles are told, and it gets 0, right from the next line on
+-- 02 (iv): version 1 has no kind, and gets the 6569's; 02 (xi): up to version 3 no lost cycles are told, and it gets 0, right from the next line on;
+-- 02 (xiv): up to version 4 no refresh counter is told, and it gets 0xFF, right from the next frame on
 unfoldable pub renewed : List ℕ → List ℕ
-renewed s = next 3 309 0 (third (next 1 308 0 s))
+renewed s = next 4 310 255 (next 3 309 0 (third (next 1 308 0 s)))

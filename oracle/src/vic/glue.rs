@@ -82,6 +82,7 @@ macro_rules! alike {
         $set!($chip.clock_ba_high, $state.clock_rise);
         $set!($chip.forced_badline_c_access_clock, $state.forced_clock);
         $set!($chip.current_clock, $state.clock);
+        $set!($chip.dram_refresh_counter, $state.refresh);
     };
 }
 

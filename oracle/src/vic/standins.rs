@@ -1,18 +1,23 @@
 //! Stand-ins for what the originals name and the text does not hold. Each is listed in README.md.
 //!
-//! All of them draw, count refreshes or watch, and nothing of that feeds back into a kept field.
-//! So they do nothing, with the arguments that the originals give them.
+//! All but one draw or watch, and nothing of that feeds back into a kept field. So they do nothing, with the arguments that the
+//! originals give them. Refresh is told (02 (xiv)), and has its read and its counter.
 
 use super::sprite_unit::SpriteUnit;
 use super::state::VicII;
 use crate::memory::Memory;
+use crate::reads::REFRESH;
 
 impl VicII {
     /// Sprite pixels and collisions.
     pub(super) fn draw_active_sprites(&mut self, _previous_cycle: u8) {}
 
-    /// Refresh reads no byte that anyone keeps. Their counter is not part of a scene.
-    pub(super) fn dram_refresh(&mut self, _memory: &mut Memory, _bank: u8, _clock: u64) {}
+    /// The body is ours, by 02 (xiv): a read whose byte goes nowhere, and then the counter is one less. The originals set it to 0xFF where
+    /// a frame ends, and say in which cycles this is called.
+    pub(super) fn dram_refresh(&mut self, memory: &mut Memory, bank: u8, clock: u64) {
+        memory.vic_read(REFRESH + u16::from(self.dram_refresh_counter), bank, clock);
+        self.dram_refresh_counter = self.dram_refresh_counter.wrapping_sub(1);
+    }
 
     /// The light pen is left out; its two bytes come from the caller of a register read.
     pub(super) fn rearm_light_pen(&mut self) {}

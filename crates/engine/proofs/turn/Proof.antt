@@ -21,18 +21,22 @@ bus-line-requires c κs = c .before .before .before .before .before .before .bef
 row-requires : tie.Need-row-requires
 row-requires c κs = search needs
 
+refreshed-requires : tie.Need-refreshed-requires
+refreshed-requires c κs = search needs
+
 returns : tie.Need-returns
 returns c =
-    let start = c .before .before .before .before .before .before .before .before .before .before .before .before .before .before .before .before .before .before in
-    let count = c .before .before .before .before .before .count .ensures in
-    let begin = c .before .before .before .before .before .before .before .before .begin .ensures in (
+    let start = c .before .before .before .before .before .before .before .before .before .before .before .before .before .before .before .before .before .before .before in
+    let count = c .before .before .before .before .before .before .count .ensures in
+    let begin = c .before .before .before .before .before .before .before .before .before .begin .ensures in (
       turn-glue (start .args .g) (start .args .side)
           begin
-          (c .before .before .before .before .before .before .before .interrupt .ensures)
-          (c .before .before .before .before .before .before .frame .ensures)
+          (c .before .before .before .before .before .before .before .before .interrupt .ensures)
+          (c .before .before .before .before .before .before .before .frame .ensures)
           (count .0)
-          (c .before .bus-line .ensures)
-          (c .row .ensures)
+          (c .before .before .bus-line .ensures)
+          (c .before .row .ensures)
+          (c .refreshed .ensures)
           (start .pre .1)
           (count .1),
       masks-glue (start .args .g) (start .args .side) begin (count .1),
@@ -48,4 +52,5 @@ turn-spec =
     count-requires
     bus-line-requires
     row-requires
+    refreshed-requires
     returns)

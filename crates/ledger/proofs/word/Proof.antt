@@ -1,7 +1,7 @@
 use native.Mathlib.Omega.{arith}
 use Rattle.line.specs.Text.{ascii}
 use Rattle.line.proofs.Join.{named-as}
-use Rattle.ledger.proofs.Words.{word1, word2, word3, word4, word5}
+use Rattle.ledger.proofs.Words.{word1, word2, word3, word4, word5, word6}
 use borrow.Author.Needs.{needs}
 use Rattle.ledger.proofs.word.Statement.{statement}
 use Rattle.ledger.proofs.word.Tie as tie
@@ -69,7 +69,20 @@ same-length-5 c = search needs
 
 returns-5 : tie.Need-returns-5
 unfolding ascii
-returns-5 c = let w = c .before .before .text5 .ensures in (omega (arith, w .0), named-as (word5 (c .before .before .before .before .before .before .before .before .if1 .left) (c .before .before .before .before .before .before .before .if2 .left) (c .before .before .before .before .before .before .if3 .left) (c .before .before .before .before .before .if4 .left)) (w .1))
+returns-5 c = let w = c .before .before .text5 .ensures in (omega (arith, w .0), named-as (word5 (c .before .before .before .before .before .before .before .before .before .if1 .left) (c .before .before .before .before .before .before .before .before .if2 .left) (c .before .before .before .before .before .before .before .if3 .left) (c .before .before .before .before .before .before .if4 .left) (c .before .before .before .before .before .if5 .taken)) (w .1))
+
+slice-aggregate-text-6 : tie.Need-slice-aggregate-text-6
+slice-aggregate-text-6 c = search needs
+
+text-requires-6 : tie.Need-text-requires-6
+text-requires-6 c κs = search needs
+
+same-length-6 : tie.Need-same-length-6
+same-length-6 c = search needs
+
+returns-6 : tie.Need-returns-6
+unfolding ascii
+returns-6 c = let w = c .before .before .text6 .ensures in (omega (arith, w .0), named-as (word6 (c .before .before .before .before .before .before .before .before .before .if1 .left) (c .before .before .before .before .before .before .before .before .if2 .left) (c .before .before .before .before .before .before .before .if3 .left) (c .before .before .before .before .before .before .if4 .left) (c .before .before .before .before .before .if5 .left)) (w .1))
 
 pub word-spec : {M : Type 1} → statement M
 word-spec =
@@ -94,4 +107,8 @@ word-spec =
     slice-aggregate-text-5
     text-requires-5
     same-length-5
-    returns-5)
+    returns-5
+    slice-aggregate-text-6
+    text-requires-6
+    same-length-6
+    returns-6)

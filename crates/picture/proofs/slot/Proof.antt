@@ -46,6 +46,12 @@ returns-2 c =
     let e = c .before .before .before .before .before .before .data-slot .ensures in
     fetched _ _ _ _ _ _ _ _ (c .before .before .before .before .before .before .before .before .before .before .before .if1 .left) (c .before .before .before .before .before .before .before .before .before .before .if2 .taken) (e .0) (c .before .reasons-data .ensures) (c .noted2 .ensures) (e .1 .0) (e .1 .1)
 
+refresh-requires : tie.Need-refresh-requires
+refresh-requires c κs = search needs
+
+gap-spot-requires : tie.Need-gap-spot-requires
+gap-spot-requires c κs = search needs
+
 reasons-gap-requires : tie.Need-reasons-gap-requires
 reasons-gap-requires c κs = search needs
 
@@ -53,7 +59,7 @@ noted-requires-3 : tie.Need-noted-requires-3
 noted-requires-3 c κs = search needs
 
 returns-3 : tie.Need-returns-3
-returns-3 c = gapped _ _ _ _ _ _ _ _ (c .before .before .before .if1 .left) (c .before .before .if2 .left) (c .before .reasons-gap .ensures) (c .noted3 .ensures)
+returns-3 c = gapped _ _ _ _ _ _ _ _ (c .before .before .before .before .before .if1 .left) (c .before .before .before .before .if2 .left) (c .before .before .before .refresh .ensures) (c .before .before .gap-spot .ensures) (c .before .reasons-gap .ensures) (c .noted3 .ensures)
 
 pub slot-spec : {M : Type 1} → statement M
 slot-spec =
@@ -72,6 +78,8 @@ slot-spec =
     same-length-4
     same-length-5
     returns-2
+    refresh-requires
+    gap-spot-requires
     reasons-gap-requires
     noted-requires-3
     returns-3)

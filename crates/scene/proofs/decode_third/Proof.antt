@@ -21,22 +21,22 @@ grow-requires c κs =
     let long : length bytes ≡ 309 = eqb-true _ _ (left _ _ (sym (c .before .before .is-version .ensures) ∙ c .before .if1 .taken)) in
     (omega arith, omega arith)
 
-slice-aggregate-decode-newest : tie.Need-slice-aggregate-decode-newest
-slice-aggregate-decode-newest c = search needs
+slice-aggregate-decode-fourth : tie.Need-slice-aggregate-decode-fourth
+slice-aggregate-decode-fourth c = search needs
 
-decode-newest-requires : tie.Need-decode-newest-requires
-decode-newest-requires c κs = search needs
+decode-fourth-requires : tie.Need-decode-fourth-requires
+decode-fourth-requires c κs = search needs
 
 returns : tie.Need-returns
 unfolding next
-returns c = simp (c .decode-newest .ensures, c .before .before .before .grow .ensures, sym (c .before .before .before .before .before .before .is-version .ensures) ∙ c .before .before .before .before .before .if1 .taken)
+returns c = simp (c .decode-fourth .ensures, c .before .before .before .grow .ensures, sym (c .before .before .before .before .before .before .is-version .ensures) ∙ c .before .before .before .before .before .if1 .taken)
 
-decode-newest-requires-2 : tie.Need-decode-newest-requires-2
-decode-newest-requires-2 c κs = search needs
+decode-fourth-requires-2 : tie.Need-decode-fourth-requires-2
+decode-fourth-requires-2 c κs = search needs
 
 returns-2 : tie.Need-returns-2
 unfolding next
-returns-2 c = simp (c .decode-newest2 .ensures, sym (c .before .before .is-version .ensures) ∙ c .before .if1 .left)
+returns-2 c = simp (c .decode-fourth2 .ensures, sym (c .before .before .is-version .ensures) ∙ c .before .if1 .left)
 
 pub decode-third-spec : {M : Type 1} → statement M
 decode-third-spec =
@@ -45,8 +45,8 @@ decode-third-spec =
     is-version-requires
     slice-aggregate-grow
     grow-requires
-    slice-aggregate-decode-newest
-    decode-newest-requires
+    slice-aggregate-decode-fourth
+    decode-fourth-requires
     returns
-    decode-newest-requires-2
+    decode-fourth-requires-2
     returns-2)

@@ -11,7 +11,7 @@ use Rattle.scene.proofs.put_matrix.Statement.{statement}
 use Rattle.scene.proofs.put_matrix.Tie as tie
 
 abbrev Inv-loop : tie.InvT-loop
-Inv-loop out₀ matrix k₀ out k = Put out₀ out 171 (171 + 2 * k) (entryBytes matrix k) × (k ≤ 40) × (length out ≡ 310)
+Inv-loop out₀ matrix k₀ out k = Put out₀ out 171 (171 + 2 * k) (entryBytes matrix k) × (k ≤ 40) × (length out ≡ 311)
 
 abbrev μ-loop : tie.MeasureT-loop
 μ-loop out₀ matrix k₀ out k = 40 - k

@@ -11,7 +11,7 @@ use Rattle.scene.proofs.put_sprites.Statement.{statement}
 use Rattle.scene.proofs.put_sprites.Tie as tie
 
 abbrev Inv-loop : tie.InvT-loop
-Inv-loop out₀ s p k₀ out k = Put out₀ out 75 (75 + 12 * k) (spriteRows s p k) × (k ≤ 8) × (length out ≡ 310)
+Inv-loop out₀ s p k₀ out k = Put out₀ out 75 (75 + 12 * k) (spriteRows s p k) × (k ≤ 8) × (length out ≡ 311)
 
 abbrev μ-loop : tie.MeasureT-loop
 μ-loop out₀ s p k₀ out k = 8 - k

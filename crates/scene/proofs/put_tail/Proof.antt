@@ -9,8 +9,8 @@ use Rattle.scene.proofs.put_tail.Tie as tie
 place-byte-requires : tie.Need-place-byte-requires
 place-byte-requires c κs = search needs
 
-cast-t8 : tie.Need-cast-t8
-cast-t8 c = search needs
+cast-t9 : tie.Need-cast-t9
+cast-t9 c = search needs
 
 slice-aggregate-put : tie.Need-slice-aggregate-put
 slice-aggregate-put c = search needs
@@ -24,8 +24,8 @@ same-length c = search needs
 returns : tie.Need-returns
 returns c =
     let start = c .before .before .before .before .before .before .before .args in
-    put-as _ 310 (c .before .before .put .ensures) (ap (λ (x : ℕ). x ∷ start .kind ∷ start .lost % 256 ∷ []) (c .before .before .before .before .before .place-byte .ensures)) refl
+    put-as _ 311 (c .before .before .put .ensures) (ap (λ (x : ℕ). x ∷ start .kind ∷ start .lost % 256 ∷ start .refresh ∷ []) (c .before .before .before .before .before .place-byte .ensures)) refl
 
 pub put-tail-spec : {M : Type 1} → statement M
 put-tail-spec =
-    tie.close (tie.spec place-byte-requires cast-t8 slice-aggregate-put put-requires same-length returns)
+    tie.close (tie.spec place-byte-requires cast-t9 slice-aggregate-put put-requires same-length returns)

@@ -29,8 +29,11 @@ waits-at-requires c κs = search needs
 shared-slice-read-t11 : tie.Need-shared-slice-read-t11
 shared-slice-read-t11 c = search needs
 
+shared-slice-read-t14 : tie.Need-shared-slice-read-t14
+shared-slice-read-t14 c = search needs
+
 returns : tie.Need-returns
-returns c = simp (c .before .waits-at .ensures, c .before .before .rows-at .ensures, c .before .before .before .bus-at .ensures, c .before .before .before .before .sprites-at .ensures, c .before .before .before .before .before .border-at .ensures, c .before .before .before .before .before .before .frame-at .ensures, c .before .before .before .before .before .before .before .beam-at .ensures, c .before .before .before .before .before .before .before .before .irq-at .ensures)
+returns c = simp (c .before .before .waits-at .ensures, c .before .before .before .rows-at .ensures, c .before .before .before .before .bus-at .ensures, c .before .before .before .before .before .sprites-at .ensures, c .before .before .before .before .before .before .border-at .ensures, c .before .before .before .before .before .before .before .frame-at .ensures, c .before .before .before .before .before .before .before .before .beam-at .ensures, c .before .before .before .before .before .before .before .before .before .irq-at .ensures)
 
 pub side-at-spec : {M : Type 1} → statement M
 side-at-spec =
@@ -45,4 +48,5 @@ side-at-spec =
     rows-at-requires
     waits-at-requires
     shared-slice-read-t11
+    shared-slice-read-t14
     returns)

@@ -2,7 +2,6 @@
 use Prim.Native.Nat.{ℕ}
 use mathlib.Core.Bool.{Bool, not, _&&_, _||_, cond}
 use Rattle.schedule.specs.declared.Reasons.{Reasons}
-use Rattle.schedule.specs.Diagram.{happens, refresh}
 
 -- 0 where there is no read
 abbrev pub seen : Bool → ℕ → ℕ
@@ -13,6 +12,9 @@ spriteReason on = cond on 2 5
 
 abbrev pub graphicsReason : Bool → ℕ
 graphicsReason moves = cond moves 4 5
+
+abbrev pub gapReason : Bool → ℕ
+gapReason refreshing = cond refreshing 6 5
 
 abbrev pub reasons : ℕ → ℕ → Reasons
 reasons x y = record { first = x; second = y }
@@ -26,5 +28,5 @@ pointerReasons first on low = reasons 1 (seen ((on && not first) || low) (sprite
 unfoldable pub dataReasons : Bool → Bool → Reasons
 dataReasons on low = reasons (spriteReason on) (seen (on || low) (spriteReason on))
 
-unfoldable pub gapReasons : ℕ → Reasons
-gapReasons cycle = reasons (seen (not (happens refresh cycle)) 5) 0
+unfoldable pub gapReasons : Bool → Reasons
+gapReasons refreshing = reasons (gapReason refreshing) 0

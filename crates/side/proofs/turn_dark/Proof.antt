@@ -87,34 +87,42 @@ turn-dark-requires c κs = rw (c .before .before .before .before .before .before
 next-pending-requires : tie.Need-next-pending-requires
 next-pending-requires c κs = search needs
 
+refresh-from-requires : tie.Need-refresh-from-requires
+refresh-from-requires c κs = search needs
+
+refresh-after-requires : tie.Need-refresh-after-requires
+refresh-after-requires c κs = search needs
+
 returns : tie.Need-returns
 returns c =
-    let start = c .before .before .before .before .before .before .before .before .before .before .before .before .before .before .before .before .before .before .before .before .before .before .before .before .before .before .before .before .before .before .before .before .before .before .before .before .before .before .before .before .args in
+    let start = c .before .before .before .before .before .before .before .before .before .before .before .before .before .before .before .before .before .before .before .before .before .before .before .before .before .before .before .before .before .before .before .before .before .before .before .before .before .before .before .before .before .before .args in
     let k = kindOf (start .side .beam .kind) in
-    let next = c .before .before .before .before .before .before .before .before .before .before .before .before .before .before .before .before .before .before .before .before .before .before .before .before .before .before .before .before .before .next-cycle .ensures in
-    let on = placed k (start .side .beam .cycle) next (c .before .before .before .before .before .before .before .before .before .before .before .before .before .before .before .before .before .before .before .before .before .before .before .before .before .before .before .before .place .ensures) in
+    let next = c .before .before .before .before .before .before .before .before .before .before .before .before .before .before .before .before .before .before .before .before .before .before .before .before .before .before .before .before .before .before .before .next-cycle .ensures in
+    let on = placed k (start .side .beam .cycle) next (c .before .before .before .before .before .before .before .before .before .before .before .before .before .before .before .before .before .before .before .before .before .before .before .before .before .before .before .before .before .before .place .ensures) in
     turn-glue (start .g) (start .side)
-    (c .before .before .before .before .before .before .before .before .before .before .before .before .before .before .before .before .before .before .before .before .before .before .before .before .before .before .before .before .before .before .clocked .ensures)
+    (c .before .before .before .before .before .before .before .before .before .before .before .before .before .before .before .before .before .before .before .before .before .before .before .before .before .before .before .before .before .before .before .before .clocked .ensures)
     next
-    (c .before .before .before .before .before .before .before .before .before .before .before .before .before .before .before .before .before .before .before .before .before .before .before .before .before .before .before .turn .ensures)
-    (c .before .before .before .before .before .before .before .before .before .before .before .before .before .before .before .before .before .before .before .before .before .before .before .before .border-dark .ensures)
-    (c .before .before .before .before .before .before .before .before .before .before .before .before .before .before .before .before .before .before .before .before .before .before .before .sprites-dark .ensures)
-    (c .before .before .before .before .before .before .before .before .before .before .before .before .before .before .before .before .before .before .before .before .before .before .turn2 .ensures)
-    (c .before .before .before .before .before .before .before .before .before .before .before .before .before .before .before .before .before .before .before .before .before .asking .ensures ∙ mask-at k on)
-    (c .before .before .before .before .before .before .before .before .before .before .before .before .before .before .before .before .before .before .before .before .request .ensures)
-    (c .before .before .before .before .before .before .before .before .before .before .before .before .before .before .before .before .before .before .before .arbitrate .ensures)
-    (c .before .before .before .before .before .before .before .before .before .before .before .before .before .before .before .before .before .before .line-begins .ensures)
-    (c .before .before .before .before .before .before .before .before .before .before .before .before .before .before .before .before .before .count .ensures)
-    (c .before .before .before .before .before .before .before .before .before .before .before .before .before .before .before .before .sprite-at .ensures ∙ sprite-at k on)
-    (c .before .before .before .before .before .before .before .before .before .before .before .before .before .before .before .pointing .ensures ∙ pointing-at k on)
-    (c .before .before .before .before .before .before .before .before .before .before .before .before .before .before .fetching .ensures ∙ fetching-at k on)
-    (c .before .before .before .before .before .before .before .before .before .before .before .before .before .at .ensures)
-    (c .before .before .before .before .before .before .before .before .before .before .before .before .has-bit .ensures)
-    (c .before .before .before .before .before .before .before .before .before .before .before .sprites-slot .ensures)
-    (c .before .before .before .before .before .before .before .before .before .before .slot-after-bus .ensures)
-    (c .before .before .before .before .before .before .before .before .before .pick-bool .ensures)
-    (c .before .before .before .before .before .before .before .before .turn-dark .ensures)
-    (c .before .before .before .before .next-pending .ensures)
+    (c .before .before .before .before .before .before .before .before .before .before .before .before .before .before .before .before .before .before .before .before .before .before .before .before .before .before .before .before .before .turn .ensures)
+    (c .before .before .before .before .before .before .before .before .before .before .before .before .before .before .before .before .before .before .before .before .before .before .before .before .before .before .border-dark .ensures)
+    (c .before .before .before .before .before .before .before .before .before .before .before .before .before .before .before .before .before .before .before .before .before .before .before .before .before .sprites-dark .ensures)
+    (c .before .before .before .before .before .before .before .before .before .before .before .before .before .before .before .before .before .before .before .before .before .before .before .before .turn2 .ensures)
+    (c .before .before .before .before .before .before .before .before .before .before .before .before .before .before .before .before .before .before .before .before .before .before .before .asking .ensures ∙ mask-at k on)
+    (c .before .before .before .before .before .before .before .before .before .before .before .before .before .before .before .before .before .before .before .before .before .before .request .ensures)
+    (c .before .before .before .before .before .before .before .before .before .before .before .before .before .before .before .before .before .before .before .before .before .arbitrate .ensures)
+    (c .before .before .before .before .before .before .before .before .before .before .before .before .before .before .before .before .before .before .before .before .line-begins .ensures)
+    (c .before .before .before .before .before .before .before .before .before .before .before .before .before .before .before .before .before .before .before .count .ensures)
+    (c .before .before .before .before .before .before .before .before .before .before .before .before .before .before .before .before .before .before .sprite-at .ensures ∙ sprite-at k on)
+    (c .before .before .before .before .before .before .before .before .before .before .before .before .before .before .before .before .before .pointing .ensures ∙ pointing-at k on)
+    (c .before .before .before .before .before .before .before .before .before .before .before .before .before .before .before .before .fetching .ensures ∙ fetching-at k on)
+    (c .before .before .before .before .before .before .before .before .before .before .before .before .before .before .before .at .ensures)
+    (c .before .before .before .before .before .before .before .before .before .before .before .before .before .before .has-bit .ensures)
+    (c .before .before .before .before .before .before .before .before .before .before .before .before .before .sprites-slot .ensures)
+    (c .before .before .before .before .before .before .before .before .before .before .before .before .slot-after-bus .ensures)
+    (c .before .before .before .before .before .before .before .before .before .before .before .pick-bool .ensures)
+    (c .before .before .before .before .before .before .before .before .before .before .turn-dark .ensures)
+    (c .before .before .before .before .before .before .next-pending .ensures)
+    (c .before .before .before .before .before .refresh-from .ensures)
+    (c .before .before .before .before .refresh-after .ensures)
 
 pub turn-dark-spec : {M : Type 1} → statement M
 turn-dark-spec =
@@ -142,4 +150,6 @@ turn-dark-spec =
     pick-bool-requires
     turn-dark-requires
     next-pending-requires
+    refresh-from-requires
+    refresh-after-requires
     returns)
