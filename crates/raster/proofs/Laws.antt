@@ -14,8 +14,9 @@ use Rattle.timing.specs.Beam.{latched}
 use Rattle.timing.proofs.Kept.{line-high, line-next, not-last, latch-stays, latch-stored}
 use Rattle.raster.specs.declared.Frame.{Frame}
 use Rattle.raster.specs.declared.Swept.{Swept}
+use Rattle.raster.specs.declared.SweptWith.{SweptWith}
 use Rattle.raster.specs.Frame.{rasterBegun, matchRaises, frameBegun, frameEnded, raised, swept}
-use Rattle.raster.specs.Refresh.{refreshAfter}
+use Rattle.raster.specs.Refresh.{refreshFrom, refreshAfter}
 
 -- the raster line stays in the frame
 pub raster-kept : (k : Kind) (f : Frame) (i : Irq) (cycle r compare : ℕ) (den latch : Bool) → r ≤ lastLine k → swept k f i cycle r compare den latch .raster ≤ lastLine k
@@ -73,3 +74,7 @@ module _ (k : Kind) (f : Frame) (i : Irq) (cycle raster compare : ℕ) (den latc
 pub refresh-rests : (cycle ref : ℕ) → happens refresh cycle ≡ false → refreshAfter cycle ref ≡ ref
 unfolding refreshAfter
 refresh-rests cycle ref e = rw e
+
+-- the counter as the cycle finds it goes by the frame's end beside it
+pub refresh-found : (ref : ℕ) {x : SweptWith} {s : Swept} → x ≡ record { swept = s; refresh = refreshFrom (s .wraps) ref } → x .refresh ≡ refreshFrom (x .swept .wraps) ref
+refresh-found ref e = rw e

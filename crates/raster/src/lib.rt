@@ -3,7 +3,7 @@ ghost use mathlib.Core.Path.{_≡_};
 ghost use Prim.Native.Nat.{_<_};
 ghost use Rattle.schedule.specs.Kind.{kindOf};
 ghost use Rattle.raster.specs.Frame.{fresh, rasterBegun, lineMatches, matchRaises, frameBegun, frameEnded, raised, compared, swept};
-ghost use Rattle.raster.specs.Refresh.{refreshFrom, lessBy, refreshAfter, refreshAddress};
+ghost use Rattle.raster.specs.Refresh.{sweptWith, lessBy, refreshAfter, refreshAddress};
 use registers::Irq;
 
 // What waits from line to line: the frame's end and the raster match.
@@ -22,6 +22,12 @@ pub struct Swept {
     pub kept: bool,
     pub frame: Frame,
     pub irq: Irq,
+}
+
+// The same, with the refresh counter as the tick finds it.
+pub struct SweptWith {
+    pub swept: Swept,
+    pub refresh: u8,
 }
 
 // What a comparison of the line leaves.
@@ -145,7 +151,7 @@ fn sweep(
     }
 }
 
-// Past the second cycle neither happens.
+// Past the second cycle neither happens, and the refresh counter stays.
 pub fn turn(
     kind: u8,
     frame: Frame,
@@ -155,35 +161,36 @@ pub fn turn(
     compare: u16,
     den: bool,
     latch: bool,
-) -> Swept
+    refresh: u8,
+) -> SweptWith
     requires { ⌜ cycle < 66 ⌝ }
-    ensures { λ r. ⌜ r ≡ swept (kindOf kind) frame irq cycle raster compare den latch ⌝ }
+    ensures { λ r. ⌜ r ≡ sweptWith (kindOf kind) frame irq cycle raster compare den latch refresh ⌝ }
 {
     let later = schedule::later(cycle);
     if later {
         let latched = timing::latched(false, raster, den, latch);
-        return Swept {
-            begins: false,
-            line: raster,
-            wraps: false,
-            raster: raster,
-            latch: latched,
-            kept: latched,
-            frame: frame,
-            irq: irq,
+        return SweptWith {
+            swept: Swept {
+                begins: false,
+                line: raster,
+                wraps: false,
+                raster: raster,
+                latch: latched,
+                kept: latched,
+                frame: frame,
+                irq: irq,
+            },
+            refresh: refresh,
         };
     }
-    sweep(kind, frame, irq, cycle, raster, compare, den, latch)
+    let swept = sweep(kind, frame, irq, cycle, raster, compare, den, latch);
+    SweptWith {
+        swept: swept,
+        refresh: laws::pick8(swept.wraps, 255, refresh),
+    }
 }
 
 // ---- the refresh counter
-
-// As a tick finds it: a frame's end puts it back.
-pub fn refresh_from(wraps: bool, counter: u8) -> u8
-    ensures { λ r. ⌜ r ≡ refreshFrom wraps counter ⌝ }
-{
-    laws::pick8(wraps, 255, counter)
-}
 
 fn one_less(counter: u8) -> u8
     ensures { λ r. ⌜ r ≡ lessBy 1 counter ⌝ }

@@ -436,7 +436,7 @@ pub fn turn_dark(side: Side, g: Controls) -> Turned
     let kind = beam0.kind;
     let cycle = timing::next_cycle(kind, beam0.cycle);
     let place = schedule::place(kind, cycle);
-    let swept = raster::turn(
+    let sweep = raster::turn(
         kind,
         frame0,
         irq0,
@@ -445,7 +445,9 @@ pub fn turn_dark(side: Side, g: Controls) -> Turned
         g.compare,
         g.den,
         beam0.latch,
+        side.refresh,
     );
+    let swept = sweep.swept;
     let irq = swept.irq;
     let frame = swept.frame;
     let raster = swept.raster;
@@ -477,8 +479,7 @@ pub fn turn_dark(side: Side, g: Controls) -> Turned
     let rowed = rows::turn_dark(rows0, cycle, beam.bad, beam.rising, swept.wraps);
     let rows = rowed.rows;
     let pending = rows::next_pending(rowed.fetches & !bus.aeclow, rows.vmli, pending0);
-    let counter = raster::refresh_from(swept.wraps, side.refresh);
-    let refresh = raster::refresh_after(cycle, counter);
+    let refresh = raster::refresh_after(cycle, sweep.refresh);
     let orders = Orders {
         cycle: cycle,
         graphics: rowed.graphics,
@@ -498,7 +499,7 @@ pub fn turn_dark(side: Side, g: Controls) -> Turned
         mask: mask,
         mc: sprite.mc,
         low: low,
-        refresh: counter,
+        refresh: sweep.refresh,
     };
     let next = Side {
         irq: irq,

@@ -1,7 +1,9 @@
-use mathlib.Core.Path.{_∙_}
+use mathlib.Core.Path.{ap, _∙_}
 use Rattle.schedule.specs.Kind.{kindOf}
 use Rattle.schedule.proofs.Places.{mask-at, pointing-at, fetching-at, sprite-at, sprite-small}
 use Rattle.timing.proofs.Kept.{cycle-small}
+use Rattle.raster.specs.declared.SweptWith.{SweptWith}
+use Rattle.raster.proofs.Laws.{refresh-found}
 use Rattle.arbitration.proofs.Kept.{arbitrated-lost, clocked-lost}
 use Rattle.side.proofs.Glue.{turn-glue}
 use Rattle.side.proofs.Parts.{placed, lit-now}
@@ -23,19 +25,19 @@ turn-requires c κs = rw (c .before .next-cycle .ensures) (cycle-small _ _)
 
 border-dark-requires : tie.Need-border-dark-requires
 border-dark-requires c κs =
-    let start = c .before .before .before .before .before .before .before .before .before .before .before .before .before .before .before in
-    let k = kindOf (start .args .side .beam .kind) in
-    let before = start .args .side .beam .cycle in
-    let next = c .before .before .before .before .next-cycle .ensures in
-    (rw next (cycle-small k before), lit-now k before next (start .pre .1 .0))
-
-sprites-dark-requires : tie.Need-sprites-dark-requires
-sprites-dark-requires c κs =
     let start = c .before .before .before .before .before .before .before .before .before .before .before .before .before .before .before .before in
     let k = kindOf (start .args .side .beam .kind) in
     let before = start .args .side .beam .cycle in
     let next = c .before .before .before .before .before .next-cycle .ensures in
-    (placed k before next (c .before .before .before .before .place .ensures), lit-now k before next (start .pre .1 .0))
+    (rw next (cycle-small k before), lit-now k before next (start .pre .1 .0))
+
+sprites-dark-requires : tie.Need-sprites-dark-requires
+sprites-dark-requires c κs =
+    let start = c .before .before .before .before .before .before .before .before .before .before .before .before .before .before .before .before .before in
+    let k = kindOf (start .args .side .beam .kind) in
+    let before = start .args .side .beam .cycle in
+    let next = c .before .before .before .before .before .before .next-cycle .ensures in
+    (placed k before next (c .before .before .before .before .before .place .ensures), lit-now k before next (start .pre .1 .0))
 
 turn-requires-2 : tie.Need-turn-requires-2
 turn-requires-2 c κs = search needs
@@ -54,8 +56,8 @@ line-begins-requires c κs = search needs
 
 count-requires : tie.Need-count-requires
 count-requires c κs =
-    let start = c .before .before .before .before .before .before .before .before .before .before .before .before .before .before .before .before .before .before .before .before .before .before in
-    rw (c .before .arbitrate .ensures, arbitrated-lost, c .before .before .before .before .before .before .before .before .before .before .before .before .clocked .ensures, clocked-lost) (start .pre .1 .1)
+    let start = c .before .before .before .before .before .before .before .before .before .before .before .before .before .before .before .before .before .before .before .before .before .before .before in
+    rw (c .before .arbitrate .ensures, arbitrated-lost, c .before .before .before .before .before .before .before .before .before .before .before .before .before .clocked .ensures, clocked-lost) (start .pre .1 .1)
 
 sprite-at-requires : tie.Need-sprite-at-requires
 sprite-at-requires c κs = search needs
@@ -82,13 +84,10 @@ pick-bool-requires : tie.Need-pick-bool-requires
 pick-bool-requires c κs = search needs
 
 turn-dark-requires : tie.Need-turn-dark-requires
-turn-dark-requires c κs = rw (c .before .before .before .before .before .before .before .before .before .before .before .before .before .before .before .before .before .before .before .before .next-cycle .ensures) (cycle-small _ _)
+turn-dark-requires c κs = rw (c .before .before .before .before .before .before .before .before .before .before .before .before .before .before .before .before .before .before .before .before .before .next-cycle .ensures) (cycle-small _ _)
 
 next-pending-requires : tie.Need-next-pending-requires
 next-pending-requires c κs = search needs
-
-refresh-from-requires : tie.Need-refresh-from-requires
-refresh-from-requires c κs = search needs
 
 refresh-after-requires : tie.Need-refresh-after-requires
 refresh-after-requires c κs = search needs
@@ -99,29 +98,30 @@ returns c =
     let k = kindOf (start .side .beam .kind) in
     let next = c .before .before .before .before .before .before .before .before .before .before .before .before .before .before .before .before .before .before .before .before .before .before .before .before .before .before .before .before .before .before .before .next-cycle .ensures in
     let on = placed k (start .side .beam .cycle) next (c .before .before .before .before .before .before .before .before .before .before .before .before .before .before .before .before .before .before .before .before .before .before .before .before .before .before .before .before .before .before .place .ensures) in
+    let sweep = c .before .before .before .before .before .before .before .before .before .before .before .before .before .before .before .before .before .before .before .before .before .before .before .before .before .before .before .before .before .turn .ensures in
     turn-glue (start .g) (start .side)
     (c .before .before .before .before .before .before .before .before .before .before .before .before .before .before .before .before .before .before .before .before .before .before .before .before .before .before .before .before .before .before .before .before .clocked .ensures)
     next
-    (c .before .before .before .before .before .before .before .before .before .before .before .before .before .before .before .before .before .before .before .before .before .before .before .before .before .before .before .before .before .turn .ensures)
-    (c .before .before .before .before .before .before .before .before .before .before .before .before .before .before .before .before .before .before .before .before .before .before .before .before .before .before .border-dark .ensures)
-    (c .before .before .before .before .before .before .before .before .before .before .before .before .before .before .before .before .before .before .before .before .before .before .before .before .before .sprites-dark .ensures)
-    (c .before .before .before .before .before .before .before .before .before .before .before .before .before .before .before .before .before .before .before .before .before .before .before .before .turn2 .ensures)
-    (c .before .before .before .before .before .before .before .before .before .before .before .before .before .before .before .before .before .before .before .before .before .before .before .asking .ensures ∙ mask-at k on)
-    (c .before .before .before .before .before .before .before .before .before .before .before .before .before .before .before .before .before .before .before .before .before .before .request .ensures)
-    (c .before .before .before .before .before .before .before .before .before .before .before .before .before .before .before .before .before .before .before .before .before .arbitrate .ensures)
-    (c .before .before .before .before .before .before .before .before .before .before .before .before .before .before .before .before .before .before .before .before .line-begins .ensures)
-    (c .before .before .before .before .before .before .before .before .before .before .before .before .before .before .before .before .before .before .before .count .ensures)
-    (c .before .before .before .before .before .before .before .before .before .before .before .before .before .before .before .before .before .before .sprite-at .ensures ∙ sprite-at k on)
-    (c .before .before .before .before .before .before .before .before .before .before .before .before .before .before .before .before .before .pointing .ensures ∙ pointing-at k on)
-    (c .before .before .before .before .before .before .before .before .before .before .before .before .before .before .before .before .fetching .ensures ∙ fetching-at k on)
-    (c .before .before .before .before .before .before .before .before .before .before .before .before .before .before .before .at .ensures)
-    (c .before .before .before .before .before .before .before .before .before .before .before .before .before .before .has-bit .ensures)
-    (c .before .before .before .before .before .before .before .before .before .before .before .before .before .sprites-slot .ensures)
-    (c .before .before .before .before .before .before .before .before .before .before .before .before .slot-after-bus .ensures)
-    (c .before .before .before .before .before .before .before .before .before .before .before .pick-bool .ensures)
-    (c .before .before .before .before .before .before .before .before .before .before .turn-dark .ensures)
-    (c .before .before .before .before .before .before .next-pending .ensures)
-    (c .before .before .before .before .before .refresh-from .ensures)
+    (ap (λ (x : SweptWith). x .swept) sweep)
+    (c .before .before .before .before .before .before .before .before .before .before .before .before .before .before .before .before .before .before .before .before .before .before .before .before .before .border-dark .ensures)
+    (c .before .before .before .before .before .before .before .before .before .before .before .before .before .before .before .before .before .before .before .before .before .before .before .before .sprites-dark .ensures)
+    (c .before .before .before .before .before .before .before .before .before .before .before .before .before .before .before .before .before .before .before .before .before .before .before .turn2 .ensures)
+    (c .before .before .before .before .before .before .before .before .before .before .before .before .before .before .before .before .before .before .before .before .before .before .asking .ensures ∙ mask-at k on)
+    (c .before .before .before .before .before .before .before .before .before .before .before .before .before .before .before .before .before .before .before .before .before .request .ensures)
+    (c .before .before .before .before .before .before .before .before .before .before .before .before .before .before .before .before .before .before .before .before .arbitrate .ensures)
+    (c .before .before .before .before .before .before .before .before .before .before .before .before .before .before .before .before .before .before .before .line-begins .ensures)
+    (c .before .before .before .before .before .before .before .before .before .before .before .before .before .before .before .before .before .before .count .ensures)
+    (c .before .before .before .before .before .before .before .before .before .before .before .before .before .before .before .before .before .sprite-at .ensures ∙ sprite-at k on)
+    (c .before .before .before .before .before .before .before .before .before .before .before .before .before .before .before .before .pointing .ensures ∙ pointing-at k on)
+    (c .before .before .before .before .before .before .before .before .before .before .before .before .before .before .before .fetching .ensures ∙ fetching-at k on)
+    (c .before .before .before .before .before .before .before .before .before .before .before .before .before .before .at .ensures)
+    (c .before .before .before .before .before .before .before .before .before .before .before .before .before .has-bit .ensures)
+    (c .before .before .before .before .before .before .before .before .before .before .before .before .sprites-slot .ensures)
+    (c .before .before .before .before .before .before .before .before .before .before .before .slot-after-bus .ensures)
+    (c .before .before .before .before .before .before .before .before .before .before .pick-bool .ensures)
+    (c .before .before .before .before .before .before .before .before .before .turn-dark .ensures)
+    (c .before .before .before .before .before .next-pending .ensures)
+    (refresh-found (start .side .refresh) sweep)
     (c .before .before .before .before .refresh-after .ensures)
 
 pub turn-dark-spec : {M : Type 1} → statement M
@@ -150,6 +150,5 @@ turn-dark-spec =
     pick-bool-requires
     turn-dark-requires
     next-pending-requires
-    refresh-from-requires
     refresh-after-requires
     returns)
