@@ -1,11 +1,11 @@
 /* VICE's VIC-II beside ours, on one run file.
  *
- *   beside KIND RUN CHART DUMP   compares VICE's cycles of the run file RUN with our chart and dump of it
- *   beside --chart KIND < RUN    writes VICE's cycles as a chart (docs/FORMATS.md, "Chart")
+ *   beside KIND RUN CHART DUMP BUS   compares VICE's cycles of the run file RUN with our chart, dump and reads of it
+ *   beside --chart KIND < RUN        writes VICE's cycles as a chart (docs/FORMATS.md, "Chart")
  *
  * KIND is 6569 or 6567R8. One call of VICE's vicii_cycle() is one tick, and a step after a tick is a store after that cycle.
  *
- * Where our chart or dump has another value than VICE, a rule below must say so: it names a departure of docs/DIFFERENCES.md,
+ * Where our chart, dump or reads have another value than VICE, a rule below must say so: it names a departure of docs/DIFFERENCES.md,
  * and it says which value ours must have instead. So every signal of every tick has exactly one value that is taken.
  *
  * Writes, for tests/vice/run: `ticks N`, `differs NUMBER SIGNAL CYCLES` and `met NUMBER TIMES` for each departure that was met,
@@ -31,8 +31,8 @@
 
 extern void vicii_store(uint16_t addr, uint8_t value);
 
-enum { CYCLE, RASTER, BA, AEC, DMA, RC, VC, FLAGS, IRQ, SIGNALS };
-static const char *const names[SIGNALS] = {"cycle", "raster", "BA", "AEC", "DMA", "RC", "VC", "flags", "irq"};
+enum { CYCLE, RASTER, BA, AEC, DMA, RC, VC, FLAGS, IRQ, REFRESH, SIGNALS };
+static const char *const names[SIGNALS] = {"cycle", "raster", "BA", "AEC", "DMA", "RC", "VC", "flags", "irq", "refresh"};
 
 /* The departures of docs/DIFFERENCES.md that are seen beside VICE. */
 enum {
@@ -148,6 +148,7 @@ static void power_up(int kind)
     vicii.vaddr_chargen_value_phi1 = vicii.vaddr_chargen_value_phi2 = 0x1000;
     vicii.ram_base_phi1 = vicii.ram_base_phi2 = mem_ram;
     vicii.last_bus_phi2 = 0xff;
+    vicii.refresh_counter = 0xff;
     maincpu_clk = 0;
 }
 
@@ -167,6 +168,8 @@ static tick_t cycle(void)
     now.at[VC] = vicii.vc;
     now.at[FLAGS] = vicii.irq_status & 0x0f;
     now.at[IRQ] = !(vicii.irq_status & 0x80);
+    /* the address of this cycle's refresh, after which the counter is one less; 0 where the cycle has none */
+    now.at[REFRESH] = cycle_is_refresh(vicii.cycle_flags) ? 0x3f00 + (uint8_t)(vicii.refresh_counter + 1) : 0;
     now.idle = vicii.idle_state;
     now.bad = vicii.bad_line;
     return now;
@@ -248,9 +251,9 @@ static void play(int kind, int bent, tick_t *ticks, int *count)
     }
 }
 
-/* ---- our chart and dump */
+/* ---- our chart, dump and reads */
 
-static const char *chart, *dump;
+static const char *chart, *dump, *bus;
 static int dumped[8], told;
 
 static int number(const char **at, char end)
@@ -304,7 +307,26 @@ static int next_dumped(void)
     return 1;
 }
 
-/* Our next tick: its line of the chart, and the dump, which has the mask and the interrupt line. */
+/* The next line of the reads: the cycle, the line, the lost cycles, and each read as a word and an address. Whether it is this tick's;
+ * then `refresh` is the address of a first read that is called so, or 0. */
+static int next_read(int cycle_, int line, int *refresh)
+{
+    const char *end = strchr(bus, '\n'), *word_;
+    int n;
+
+    if (!end || number(&bus, ' ') != cycle_ || number(&bus, ' ') != line) {
+        return 0;
+    }
+    word_ = strchr(bus, ' ');
+    *refresh = 0;
+    if (word_ && word_ < end && sscanf(word_, " refresh %4x%n", (unsigned *)refresh, &n) == 1 && word_ + n > end) {
+        return 0;
+    }
+    bus = end + 1;
+    return 1;
+}
+
+/* Our next tick: its line of the chart, the dump, which has the mask and the interrupt line, and its reads. */
 static const char *ours_next(tick_t *ours)
 {
     static const int order[8] = {CYCLE, RASTER, BA, AEC, DMA, RC, VC, FLAGS};
@@ -331,13 +353,17 @@ static const char *ours_next(tick_t *ours)
     }
     ours->at[DMA] = dumped[4];
     ours->at[IRQ] = dumped[7];
+    if (!next_read(ours->at[CYCLE], ours->at[RASTER], &ours->at[REFRESH])) {
+        return "the reads have no such line";
+    }
     return NULL;
 }
 
 /* ---- what VICE did, so that it is seen whether there was something to compare */
 
-static const char *const sights[] = {"BA_low", "AEC_low", "sprite_DMA", "a_bad_line", "display_state", "the_interrupt"};
-static long seen[6];
+static const char *const sights[] = {"BA_low", "AEC_low", "sprite_DMA", "a_bad_line", "display_state", "the_interrupt", "a_refresh"};
+enum { SIGHTS = sizeof sights / sizeof *sights };
+static long seen[SIGHTS];
 
 static void look(const tick_t *now)
 {
@@ -347,6 +373,7 @@ static void look(const tick_t *now)
     seen[3] += now->bad;
     seen[4] += !now->idle;
     seen[5] += !now->at[IRQ];
+    seen[6] += now->at[REFRESH] != 0;
 }
 
 /* ---- the rules */
@@ -579,6 +606,11 @@ static int beside(int kind)
         return 1;
     }
     chart += strlen(head);
+    if (strncmp(bus, head, strlen(head))) {
+        printf("different the reads do not begin with %s", head);
+        return 1;
+    }
+    bus += strlen(head);
     dump = strstr(dump, "$enddefinitions $end\n");
     if (!dump) {
         puts("different the dump has no declarations");
@@ -604,12 +636,12 @@ static int beside(int kind)
         look(&raw[done]);
         before = bent[done++];
     }
-    if (!bad && (*chart || *dump)) {
-        puts("different the chart or the dump has more than the run file's ticks");
+    if (!bad && (*chart || *dump || *bus)) {
+        puts("different the chart, the dump or the reads have more than the run file's ticks");
         bad = 1;
     }
     printf("ticks %d\n", done);
-    for (k = 0; k < 6; k++) {
+    for (k = 0; k < SIGHTS; k++) {
         printf("seen %s %ld\n", sights[k], seen[k]);
     }
     for (n = 0; n < NUMBERS; n++) {
@@ -660,12 +692,13 @@ int main(int argc, char **argv)
         open_run();
         return charted(kind_of(argv[2]));
     }
-    if (argc != 5) {
-        cannot("KIND RUN CHART DUMP, or --chart KIND");
+    if (argc != 6) {
+        cannot("KIND RUN CHART DUMP BUS, or --chart KIND");
     }
     file = all_of(fopen(argv[2], "rb"), &length);
     open_run();
     chart = (const char *)all_of(fopen(argv[3], "rb"), &size);
     dump = (const char *)all_of(fopen(argv[4], "rb"), &size);
+    bus = (const char *)all_of(fopen(argv[5], "rb"), &size);
     return beside(kind_of(argv[1]));
 }
