@@ -2,10 +2,12 @@
 // works each through one to three lines twice, by lines as a whole and by ticks called one by one. The two scenes must be alike, byte for
 // byte. For each kind it tells how many states there were, how many of them are accepted and how many ended alike, then the first place
 // of the first few that did not, and how often each corner was met.
+#![tactic(auto)]
+
 ghost use Rattle.std.specs.Prelude.{◌≡◌, ◌<◌, ◌≤◌, length};
 
 use chip::Chip;
-use libc::STDOUT_FILENO;
+use streams::STDOUT_FILENO;
 
 const STATES: u64 = 1500;
 
@@ -366,7 +368,7 @@ fn word(body: &[u8; 311], at: usize) -> u64
 }
 
 // How often each corner was met.
-#[derive(Drop)]
+#[derive(Clone, Copy)]
 struct Met {
     frame_end: u64,
     frame_flag: u64,
@@ -477,7 +479,7 @@ fn tell_apart(number: u64, n: u64, place: u64) {
 }
 
 // What was found of a kind so far.
-#[derive(Drop)]
+#[derive(Clone, Copy)]
 struct Found {
     accepted: u64,
     alike: u64,

@@ -1,5 +1,7 @@
 // What the chip reads in a cycle: the matrix, the graphics, the sprites' slots, and what an access leaves behind.
 // The picture's arrays are lent; every step takes any number, so that a state's bounds need not travel.
+#![tactic(auto)]
+
 ghost use Rattle.std.specs.Prelude.{◌≡◌, Bool, true, false, cond, not, ◌&&◌, ◌||◌, [], ◌<◌, length, ℤ};
 ghost use Rattle.laws.specs.Clock.{InRange};
 ghost use Rattle.memory.specs.Memory.{Lent};
@@ -13,35 +15,35 @@ ghost use Rattle.access.specs.Slots.{pointer_address, byte_address, byte_read, o
 use schedule::Reasons;
 
 // The character that a graphics access uses, and the bits that a merge carries on.
-#[derive(Drop)]
+#[derive(Clone, Copy)]
 pub struct Latch {
     pub ch: u16,
     pub carry: u16,
 }
 
 // What a character access found: twelve bits of the matrix line, and the address of the eight that memory has.
-#[derive(Drop)]
+#[derive(Clone, Copy)]
 pub struct Entry {
     pub word: u16,
     pub address: u16,
 }
 
 // A read of a tick: the number of its reason, 0 for none, and the address that was on the bus.
-#[derive(Drop)]
+#[derive(Clone, Copy)]
 pub struct Read {
     pub reason: u8,
     pub address: u16,
 }
 
 // A tick's reads, in order.
-#[derive(Drop)]
+#[derive(Clone, Copy)]
 pub struct Reads {
     pub first: Read,
     pub second: Read,
 }
 
 // Where the two accesses of a cycle read, whether or not they have the bus.
-#[derive(Drop)]
+#[derive(Clone, Copy)]
 pub struct Spots {
     pub first: u16,
     pub second: u16,

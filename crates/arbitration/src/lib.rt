@@ -1,10 +1,12 @@
 // Who has the bus: the request, BA, the AEC counter, the clocks of BA's edges, and the cycles that the CPU has lost on a line.
+#![tactic(auto)]
+
 ghost use Rattle.std.specs.Prelude.{◌≡◌, Bool, cond, ◌<◌, ℤ};
 ghost use Rattle.laws.specs.Clock.{InRange};
 ghost use Rattle.schedule.specs.Kind.{kind_of};
 ghost use Rattle.arbitration.specs.Bus.{fresh, clock_on, clocked, sprite_asks, requested, aec_after, low, arbitrated, lost_after, counted, phi1_mask, phi1_high};
 
-#[derive(Drop)]
+#[derive(Clone, Copy)]
 pub struct Bus {
     pub clock: i64,
     pub fall: i64,

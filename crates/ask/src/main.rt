@@ -8,10 +8,12 @@
 //   4  the block of pointer a in bank b, RAM of cd bytes, ROM of ef       the refusal, the block's length, the block
 //   5  register write: address ab, value c                                the scene afterwards
 //   6  register read: address ab, light pen bytes c and d                 the byte
+#![tactic(auto)]
+
 ghost use Rattle.std.specs.Prelude.{◌≡◌, length};
 
 use chip::Chip;
-use libc::{STDIN_FILENO, STDOUT_FILENO};
+use streams::{STDIN_FILENO, STDOUT_FILENO};
 
 fn word(low: u8, high: u8) -> u16 {
     low as u16 + high as u16 * 256

@@ -1,8 +1,10 @@
 // The border unit: the main and the vertical flip-flop, and the lines at which the vertical one changes.
+#![tactic(auto)]
+
 ghost use Rattle.std.specs.Prelude.{◌≡◌, true, false, not};
 ghost use Rattle.border.specs.Border.{fresh, compared, switched, line_begun, line_ended, opened, left_passed, left_part, left40_passed, left38_passed, right38_passed, right40_passed, remembered};
 
-#[derive(Drop)]
+#[derive(Clone, Copy)]
 pub struct Border {
     pub vertical: bool,
     pub main: bool,

@@ -1,9 +1,11 @@
 // The charts of a bundle of run files: for each file its length, two bytes with the low one first, and its bytes come in;
 // a line `file N`, counted from 1, and the chart come out.
+#![tactic(auto)]
+
 ghost use Rattle.std.specs.Prelude.{◌≡◌, length};
 
-use libc::{STDIN_FILENO, STDOUT_FILENO};
 use script::Count;
+use streams::{STDIN_FILENO, STDOUT_FILENO};
 
 fn head() -> [u8; 11]
     ensures { 11 ≡ length result }

@@ -1,7 +1,9 @@
 // The bus of a run file on a 6567R8: standard input is the file, standard output a line for each tick with its reads.
+#![tactic(auto)]
+
 ghost use Rattle.std.specs.Prelude.{◌≡◌, length};
 
-use libc::STDIN_FILENO;
+use streams::STDIN_FILENO;
 
 // More than the longest run file, which has 392,195 bytes.
 fn space() -> [u8; 400000]

@@ -1,5 +1,7 @@
 // Every public call on a chip but the tick.
 // A call asks nothing of its caller: what it does not take it refuses by number, with the state unchanged.
+#![tactic(auto)]
+
 ghost use Rattle.std.specs.Prelude.{◌≡◌, ◌<◌};
 ghost use Rattle.chip.specs.Chip.{answer};
 ghost use Rattle.calls.specs.Calls.{register_read, file_written, expand_at, register_written, compares_by, control_stored, control1_written, control2_written, controls_placed, late_at, late_taken, phi1, dma_count, cycles_lost};

@@ -1,11 +1,13 @@
 // A capture brought in: standard input is a Value Change Dump, standard output its records, one line a tick.
+#![tactic(auto)]
+
 ghost use Rattle.std.specs.Prelude.{◌≡◌, ◌≤◌, length};
 
 use intake::{Reader, Record, Said, Told};
-use libc::{STDIN_FILENO, STDOUT_FILENO};
+use streams::{STDIN_FILENO, STDOUT_FILENO};
 
 // A capture on its way: of the block the first `len` bytes are there and `from` are read; the text goes on at `at`.
-#[derive(Drop)]
+#[derive(Clone, Copy)]
 struct Work {
     reader: Reader,
     len: usize,
@@ -26,21 +28,30 @@ fn working(reader: Reader, len: usize, from: usize, at: usize, going: bool) -> W
     }
 }
 
-fn flush(out: &[u8], at: usize)
+// Whether what is there could be written.
+fn flush(out: &[u8], at: usize) -> bool
     requires { at ≤ length out.now }
 {
-    io::write_all(STDOUT_FILENO, &out[..at]);
+    io::write_all(STDOUT_FILENO, &out[..at])
 }
 
-// Room for a line: where there is none, what is there is written out.
-fn with_room(out: &[u8], at: usize) -> usize
+// Whether there is somebody to read on: where there is no room for a line, what is there is written out.
+fn read_on(out: &[u8], at: usize) -> bool
     requires { at ≤ length out.now }
+{
+    if at <= 65000 {
+        return true;
+    }
+    flush(out, at)
+}
+
+// Where a line goes: behind the others, or first in a buffer that was written out.
+fn with_room(at: usize) -> usize
     ensures { result ≤ 65000 }
 {
     if at <= 65000 {
         return at;
     }
-    flush(out, at);
     0
 }
 
@@ -91,9 +102,12 @@ fn turn(w: Work, block: &mut [u8], room: &mut [u8], pool: &mut [u8], out: &mut [
     requires { (65536 ≡ length block.old) × (65536 ≡ length out.old) × (w.len ≤ 65536) × (w.at ≤ 65536) }
     ensures { (result.len ≤ 65536) × (result.at ≤ 65536) }
 {
-    let at = with_room(out, w.at);
     let len = w.len;
     let reader = w.reader;
+    if !read_on(out, w.at) {
+        return working(reader, len, w.from, 0, false);
+    }
+    let at = with_room(w.at);
     let told = intake::next(reader, &block[..len], w.from, room, pool);
     said(told, len, at, block, room, pool, out)
 }

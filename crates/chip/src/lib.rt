@@ -1,4 +1,6 @@
 // What a chip is: its parts, its state at power-up, and which states are accepted.
+#![tactic(auto)]
+
 ghost use Rattle.std.specs.Prelude.{◌≡◌, Bool, ℤ};
 ghost use Rattle.rows.specs.Fine.{vmli_limit};
 ghost use Rattle.chip.specs.Chip.{powered};
@@ -10,7 +12,7 @@ use registers::Registers;
 use rows::Pending;
 use side::Side;
 
-#[derive(Drop)]
+#[derive(Clone, Copy)]
 pub struct Picture {
     pub pen: Pen,
     pub matrix: [u16; 40],
@@ -19,7 +21,7 @@ pub struct Picture {
     pub words: [u32; 8],
 }
 
-#[derive(Drop)]
+#[derive(Clone, Copy)]
 pub struct Chip {
     pub regs: Registers,
     pub side: Side,
@@ -27,7 +29,7 @@ pub struct Chip {
 }
 
 // A call's answer: the number of its refusal, 0 for none, the chip, and a tick's reads.
-#[derive(Drop)]
+#[derive(Clone, Copy)]
 pub struct Answer {
     pub refused: u8,
     pub chip: Chip,

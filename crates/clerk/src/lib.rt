@@ -1,4 +1,6 @@
 // The bus of a run file: what the driver has to tell of each turn, as text in a lent buffer; and that text written out, a block at a time.
+#![tactic(auto)]
+
 ghost use Rattle.std.specs.Prelude.{◌≡◌, ◌+◌, ◌≤◌, length};
 ghost use Rattle.line.specs.Text.{Written};
 ghost use Rattle.driver.specs.Driver.{store, store_at};
@@ -9,11 +11,11 @@ ghost use Rattle.clerk.specs.Machinery.Page.{page, begun_of, roomed, said_on, pa
 use access::Reads;
 use chip::Chip;
 use driver::{Event, Run};
-use libc::STDOUT_FILENO;
 use script::Found;
+use streams::STDOUT_FILENO;
 
 // A run on its way: its text goes on at `at`.
-#[derive(Drop)]
+#[derive(Clone, Copy)]
 pub struct Page {
     pub run: Run,
     pub at: usize,

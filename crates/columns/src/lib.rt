@@ -1,5 +1,7 @@
 // The forty columns of a line: the matrix line is filled, then the character latch goes over it.
 // Nothing is done forty times but the fill of a bad line in display state, and the merge after a forced bad line.
+#![tactic(auto)]
+
 ghost use Rattle.std.specs.Prelude.{◌≡◌, Bool, cond, ◌<◌, length, get_or, set, ℤ};
 ghost use Rattle.memory.specs.Memory.{Lent};
 ghost use Rattle.access.specs.Merge.{Merging, merging, latched};

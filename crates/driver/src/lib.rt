@@ -1,4 +1,6 @@
 // A run file at work: what it says next, done on a chip and its memory, turn by turn. What is told of a turn is the caller's affair.
+#![tactic(auto)]
+
 ghost use Rattle.std.specs.Prelude.{◌≡◌};
 ghost use Rattle.driver.specs.Driver.{store, set_in, store_set, begun_of, cursor_at, going≔, one_more, step_done, made_reading, made, event_of, made_doing, made_on, store_at};
 
@@ -8,7 +10,7 @@ use run::Done;
 use script::{Cursor, Found, Item, Part, Step};
 
 // A run on its way: `done` steps are done.
-#[derive(Drop)]
+#[derive(Clone, Copy)]
 pub struct Run {
     pub chip: Chip,
     pub cursor: Cursor,
@@ -18,7 +20,7 @@ pub struct Run {
 }
 
 // What there is to tell of a turn: the number of the steps, a tick, whose chip is the run's, or a refusal.
-#[derive(Drop)]
+#[derive(Clone, Copy)]
 pub enum Event {
     Nothing,
     Steps(u16),
@@ -27,7 +29,7 @@ pub enum Event {
 }
 
 // The run after a turn, what there is to tell, and a tick's reads.
-#[derive(Drop)]
+#[derive(Clone, Copy)]
 pub struct Made {
     pub run: Run,
     pub event: Event,

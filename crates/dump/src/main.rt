@@ -1,7 +1,9 @@
 // The dump of a run file for a waveform viewer: standard input is the file, standard output the Value Change Dump.
+#![tactic(auto)]
+
 ghost use Rattle.std.specs.Prelude.{◌≡◌, length};
 
-use libc::STDIN_FILENO;
+use streams::STDIN_FILENO;
 
 // More than the longest run file, which has 392,195 bytes.
 fn space() -> [u8; 400000]

@@ -1,5 +1,7 @@
 // A line at a time: the state after a whole line without a write, from the state at the last cycle of the line before.
 // No step of a tick is in it: what a line does to each part is worked out at once, and the forty columns by column.
+#![tactic(auto)]
+
 ghost use Rattle.std.specs.Prelude.{◌≡◌, Bool, cond, ◌<◌, length};
 ghost use Rattle.laws.specs.Clock.{InRange};
 ghost use Rattle.memory.specs.Lent.{host};
@@ -33,7 +35,7 @@ use timing::Beam;
 // ---- the line and the frame
 
 // What a line begins with: its number before a frame's end in it and after, and whether it is a bad one.
-#[derive(Drop)]
+#[derive(Clone, Copy)]
 pub struct Begun {
     pub line: u16,
     pub wraps: bool,
@@ -78,7 +80,7 @@ fn interrupt(irq: Irq, before: bool, matched: bool, wraps: bool, compare: u16) -
 // ---- the border
 
 // What a line leaves of the border, and whether output is shut off in column 0, in column 1 and from column 2 on.
-#[derive(Drop)]
+#[derive(Clone, Copy)]
 pub struct Framed {
     pub border: Border,
     pub first: bool,
@@ -140,7 +142,7 @@ fn row(rows: Rows, bad: bool, rises: bool, wraps: bool) -> Rows
 // ---- the sprites' counters
 
 // The eight bases after the step of MCBASE.
-#[derive(Drop)]
+#[derive(Clone, Copy)]
 pub struct Bases {
     pub b0: u8,
     pub b1: u8,
@@ -359,7 +361,7 @@ fn increment(s: Sprites, third: bool) -> Sprites
 }
 
 // What a line leaves of the sprites, and before it what the load of MC leaves: its mask is the one of both comparisons.
-#[derive(Drop)]
+#[derive(Clone, Copy)]
 pub struct Counted {
     pub loaded: Sprites,
     pub after: Sprites,
@@ -382,7 +384,7 @@ fn count(s: Sprites, kind: u8, raster: u16, my: [u8; 8], enable: u8, yexp: u8) -
 // ---- the timing side
 
 // What a line leaves of the timing side, and what the picture goes by.
-#[derive(Drop)]
+#[derive(Clone, Copy)]
 pub struct Turned {
     pub side: Side,
     pub begun: Begun,
@@ -551,7 +553,7 @@ fn slots(
 // ---- the whole line
 
 // What a line changes besides the lent arrays.
-#[derive(Drop)]
+#[derive(Clone, Copy)]
 pub struct Core {
     pub side: Side,
     pub pen: Pen,

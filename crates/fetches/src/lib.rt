@@ -1,4 +1,6 @@
 // The sprites' slots of a whole line: what they fetch, slot after slot in the kind's order.
+#![tactic(auto)]
+
 ghost use Rattle.std.specs.Prelude.{◌≡◌, false, List, ℕ, ◌<◌, length};
 ghost use Rattle.laws.specs.Bits.{has_bit};
 ghost use Rattle.memory.specs.Memory.{Lent};

@@ -1,6 +1,8 @@
 // Three frames from power-up: the cycle, the raster line and the clock, as they are counted on paper.
+#![tactic(auto)]
+
 use chip::Answer;
-use libc::STDOUT_FILENO;
+use streams::STDOUT_FILENO;
 
 fn space(fd: i32) {
     io::write_all(fd, b" ");

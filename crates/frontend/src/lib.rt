@@ -1,4 +1,6 @@
 // The C front end: questions on plain numbers, each with an answer for every number. Those that take no kind are about the 6569.
+#![tactic(auto)]
+
 ghost use Rattle.std.specs.Prelude.{◌≡◌, ◌+◌};
 ghost use Rattle.schedule.specs.Kind.{the6569, kind_of, last_cycle, last_line};
 ghost use Rattle.schedule.specs.Requests.{mask_at, sprites_in};

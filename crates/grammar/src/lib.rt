@@ -1,7 +1,8 @@
 // What a reader of captures holds between two words.
+#![tactic(auto)]
 
 // A value's digits so far: the bits that are 1, the bits that are unknown, a 1 for each digit; and whether all are digits and no more than ten.
-#[derive(Drop)]
+#[derive(Clone, Copy)]
 pub struct Digits {
     pub value: u16,
     pub unknown: u16,
@@ -10,14 +11,14 @@ pub struct Digits {
 }
 
 // A time so far, and whether it is a time.
-#[derive(Drop)]
+#[derive(Clone, Copy)]
 pub struct Time {
     pub value: u64,
     pub fine: bool,
 }
 
 // What comes next.
-#[derive(Drop)]
+#[derive(Clone, Copy)]
 pub enum Phase {
     // between the sections of the declarations
     Heading,
@@ -47,7 +48,7 @@ pub enum Phase {
 
 // What a reader holds besides its table: what comes next, which of the eight are declared and how many,
 // their values, and the time: the tick that is to be told next, and the mark that was read last.
-#[derive(Drop)]
+#[derive(Clone, Copy)]
 pub struct Head {
     pub phase: Phase,
     pub signals: u8,
@@ -60,7 +61,7 @@ pub struct Head {
 }
 
 // The eight's values on their way through a change: whether its identifier is declared, and the value fits each of ours that has it.
-#[derive(Drop)]
+#[derive(Clone, Copy)]
 pub struct Change {
     pub values: [u16; 8],
     pub unknown: [u16; 8],

@@ -1,1 +1,2 @@
 // What a reader of captures is heard to say: definitions and theorems alone.
+#![tactic(auto)]

@@ -1,4 +1,6 @@
 // A capture, read in parts that the caller lends, and told one record at a time.
+#![tactic(auto)]
+
 ghost use Rattle.std.specs.Prelude.{◌≡◌, length, drop};
 ghost use Rattle.grammar.specs.Grammar.{go_to};
 ghost use Rattle.grammar.specs.Reading.{later, begins};
@@ -10,7 +12,7 @@ use phrase::Table;
 
 // The word that is being read: its first bytes stand in the lent room; whether there are more; its place, the place of the next byte,
 // and the place of the item that it belongs to.
-#[derive(Drop)]
+#[derive(Clone, Copy)]
 pub struct Word {
     pub len: usize,
     pub over: bool,
@@ -19,7 +21,7 @@ pub struct Word {
     pub item: u64,
 }
 
-#[derive(Drop)]
+#[derive(Clone, Copy)]
 pub struct Reader {
     pub head: Head,
     pub table: Table,
@@ -28,7 +30,7 @@ pub struct Reader {
 }
 
 // A tick: the bits that are 1, and the bits that are unknown, of each of the eight.
-#[derive(Drop)]
+#[derive(Clone, Copy)]
 pub struct Record {
     pub time: u64,
     pub values: [u16; 8],
@@ -36,7 +38,7 @@ pub struct Record {
 }
 
 // What a reader answers: how many of the eight are declared, a tick's record, that it wants the next part, that all is told, or a fault and its place.
-#[derive(Drop)]
+#[derive(Clone, Copy)]
 pub enum Said {
     Signals(u8),
     Tick,
@@ -45,7 +47,7 @@ pub enum Said {
     Refused(u8, u64),
 }
 
-#[derive(Drop)]
+#[derive(Clone, Copy)]
 pub struct Told {
     pub said: Said,
     pub tick: Record,
@@ -313,7 +315,7 @@ fn busy(r: Reader) -> bool
     r.ended | (head.time < head.mark) | wait
 }
 
-#[derive(Drop)]
+#[derive(Clone, Copy)]
 struct Scanned {
     reader: Reader,
     at: usize,

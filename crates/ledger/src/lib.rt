@@ -1,4 +1,6 @@
 // The text of a tick on the bus: its place, and each read with its word and its address, in a lent buffer.
+#![tactic(auto)]
+
 ghost use Rattle.std.specs.Prelude.{◌≡◌, ◌+◌, ◌≤◌, length};
 ghost use Rattle.line.specs.Text.{Written};
 ghost use Rattle.ledger.specs.Text.{hex_of, address_of, named, word_of, end_of, read_of, line_of};

@@ -1,4 +1,6 @@
 // The chart's text: a tick's eight numbers, in decimal, in a lent buffer; and the pieces that every text is made of.
+#![tactic(auto)]
+
 ghost use Rattle.std.specs.Prelude.{◌≡◌, [], ◌∷◌, ◌+◌, ◌≤◌, ◌<◌, ◌%◌, length};
 ghost use Rattle.calls.specs.Calls.{dma_count};
 ghost use Rattle.line.specs.Line.{level_of, numbers_of};
@@ -7,7 +9,7 @@ ghost use Rattle.line.specs.Text.{glyph_of, text_of, Written, four_of, line_of, 
 use chip::Chip;
 
 // A tick's line: 0 is low.
-#[derive(Drop)]
+#[derive(Clone, Copy)]
 pub struct Eight {
     pub cycle: u16,
     pub raster: u16,

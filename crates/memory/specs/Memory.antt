@@ -39,7 +39,7 @@ Place = ℕ × ℕ
 abbrev pub past : Place → ℕ → Place
 past place bytes = (place.0, bytes + place.1)
 
--- 01, Memory: the block is a part of the caller's memory. Of a lent slice, a `RefT`, `now` is its bytes and `ptr` where it begins; a refused block, which has no bytes, begins where RAM does
+-- 01, Memory: the block is a part of the caller's memory. Of a lent slice, a `Bor`, `now` is its bytes and `ref_ptr` where it begins; a refused block, which has no bytes, begins where RAM does
 unfoldable pub block_place : Bor (List ℕ) → Bor (List ℕ) → ℕ → ℕ → Place
 block_place ram rom pointer bank =
     let start = pointer * 64 in

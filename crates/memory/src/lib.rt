@@ -1,10 +1,12 @@
 // The chip's view of the memory that the host lends: one read, and the 64 bytes that a pointer shows.
+#![tactic(auto)]
+
 ghost use Rattle.std.specs.Prelude.{◌≡◌, Bool};
 ghost use Rattle.memory.specs.Memory.{Lent, in_rom, read_at, block_refusal, block_of, block_place};
 ghost use Rattle.memory.specs.Lent.{host, lent_refusal};
 
 // What a read found: the byte, and the address as the chip puts it on the bus.
-#[derive(Drop)]
+#[derive(Clone, Copy)]
 pub struct Found {
     pub byte: u8,
     pub address: u16,

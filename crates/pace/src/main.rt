@@ -2,10 +2,12 @@
 // In: the three memories, a scene, the bank, 1 for ticks one by one or 0 for runs of ticks, the turns (4 bytes),
 // and steps to the end of the input, each a register's address, its value and a count of ticks (2 bytes).
 // Out: the scene afterwards.
+#![tactic(auto)]
+
 ghost use Rattle.std.specs.Prelude.{◌≡◌, length, ◌≤◌};
 
 use chip::Chip;
-use libc::{STDIN_FILENO, STDOUT_FILENO};
+use streams::{STDIN_FILENO, STDOUT_FILENO};
 
 fn single(chip: Chip, memories: &[u8], bank: u8) -> Chip
     requires { length memories.now ≡ 21504 }

@@ -1,4 +1,6 @@
 // What a word does to what a reader holds besides its table.
+#![tactic(auto)]
+
 ghost use Rattle.std.specs.Prelude.{◌≡◌, Bool, ◌<◌, ◌≤◌, take, drop, get_or};
 ghost use Rattle.laws.specs.Pick.{pick};
 ghost use Rattle.grammar.specs.Signals.{which_of};
@@ -9,7 +11,7 @@ use grammar::{Change, Digits, Head, Phase};
 
 // The declared signals: where each identifier ends in the lent pool, each beginning where the one before ends, and which of the eight it is.
 // The identifier of a `$var` that is being read stands from `used` to `tail`, where it fits.
-#[derive(Drop)]
+#[derive(Clone, Copy)]
 pub struct Table {
     pub count: usize,
     pub ends: [usize; 64],

@@ -1,4 +1,6 @@
 // The picture side: what the accesses of a cycle leave in it. It is told what to do by the timing side's orders.
+#![tactic(auto)]
+
 ghost use Rattle.std.specs.Prelude.{◌≡◌, Bool, ◌<◌, length, ℤ};
 ghost use Rattle.laws.specs.Clock.{InRange};
 ghost use Rattle.memory.specs.Memory.{Lent};
@@ -12,7 +14,7 @@ use schedule::Reasons;
 use side::Orders;
 
 // The picture's numbers; its four arrays are lent beside it.
-#[derive(Drop)]
+#[derive(Clone, Copy)]
 pub struct Pen {
     pub ch: u16,
     pub carry: u16,
@@ -24,7 +26,7 @@ pub struct Pen {
 }
 
 // The picture's numbers after a cycle, and where its graphics and its character access read.
-#[derive(Drop)]
+#[derive(Clone, Copy)]
 pub struct Drawn {
     pub pen: Pen,
     pub spots: Spots,

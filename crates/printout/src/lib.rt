@@ -1,4 +1,6 @@
 // What a capture comes to, as text in a lent buffer: how many signals, a line a tick, a fault.
+#![tactic(auto)]
+
 ghost use Rattle.std.specs.Prelude.{◌≡◌, ◌+◌, ◌≤◌, length};
 ghost use Rattle.line.specs.Text.{Written};
 ghost use Rattle.vcd.specs.Text.{digits_of};

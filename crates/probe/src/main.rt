@@ -1,9 +1,11 @@
 // The dump's public calls at work: the declarations and seventy ticks from power-up, each piece in a buffer of 292 bytes;
 // then the numbers of six refusals in one that is a byte too short, one a line.
+#![tactic(auto)]
+
 ghost use Rattle.std.specs.Prelude.{◌≡◌, length};
 
 use chip::Chip;
-use libc::STDOUT_FILENO;
+use streams::STDOUT_FILENO;
 use vcd::Wave;
 
 // The bytes that a call wrote.

@@ -1,4 +1,6 @@
 // The line and the frame: where a line begins and a frame ends, the raster match, and the interrupt that it raises. The refresh counter, which begins with a frame.
+#![tactic(auto)]
+
 ghost use Rattle.std.specs.Prelude.{◌≡◌, ◌<◌};
 ghost use Rattle.schedule.specs.Kind.{kind_of};
 ghost use Rattle.raster.specs.Frame.{fresh, raster_begun, line_matches, match_raises, frame_begun, frame_ended, raised, compared, swept};
@@ -7,14 +9,14 @@ ghost use Rattle.raster.specs.Refresh.{swept_with, less_by, refresh_after, refre
 use registers::Irq;
 
 // What waits from line to line: the frame's end and the raster match.
-#[derive(Drop)]
+#[derive(Clone, Copy)]
 pub struct Frame {
     pub ending: bool,
     pub matched: bool,
 }
 
 // What the line and the frame do in a cycle: the line and the DEN latch before a frame's end, and after it.
-#[derive(Drop)]
+#[derive(Clone, Copy)]
 pub struct Swept {
     pub begins: bool,
     pub line: u16,
@@ -27,14 +29,14 @@ pub struct Swept {
 }
 
 // The same, with the refresh counter as the tick finds it.
-#[derive(Drop)]
+#[derive(Clone, Copy)]
 pub struct SweptWith {
     pub swept: Swept,
     pub refresh: u8,
 }
 
 // What a comparison of the line leaves.
-#[derive(Drop)]
+#[derive(Clone, Copy)]
 pub struct Compared {
     pub frame: Frame,
     pub irq: Irq,

@@ -1,1 +1,2 @@
 // What a dump of ours reads back as: theorems alone.
+#![tactic(auto)]

@@ -1,4 +1,6 @@
 // The register file and the interrupt latches, and what the control bits mean.
+#![tactic(auto)]
+
 ghost use Rattle.std.specs.Prelude.{◌≡◌};
 ghost use Rattle.registers.specs.Control.{DEN, RSEL, YSCROLL, CSEL, mode_number, timed};
 ghost use Rattle.registers.specs.Irq.{quiet, settled, triggered, cleared, enabled, irq_written};
@@ -36,7 +38,7 @@ pub fn mode(ctrl1: u8, ctrl2: u8) -> u8
     ctrl1 / 32 % 4 * 2 + ctrl2 / 16 % 2
 }
 
-#[derive(Drop)]
+#[derive(Clone, Copy)]
 pub struct Irq {
     pub flags: u8,
     pub enable: u8,
@@ -100,7 +102,7 @@ impl Irq {
     }
 }
 
-#[derive(Drop)]
+#[derive(Clone, Copy)]
 pub struct Registers {
     pub mx: [u8; 8],
     pub my: [u8; 8],
@@ -351,7 +353,7 @@ impl Registers {
 // ---- the timing registers
 
 // What the timing side of a tick reads of the register file.
-#[derive(Drop)]
+#[derive(Clone, Copy)]
 pub struct Controls {
     pub den: bool,
     pub rsel: bool,

@@ -1,14 +1,16 @@
 // Answers saved cases, one after the other: a call, what it is called with and the chip before it go in,
 // the refusal, the answer, what a tick read and the chip after it come out. The format is `Replay`.
+#![tactic(auto)]
+
 ghost use Rattle.std.specs.Prelude.{◌≡◌, length};
 
 use access::Reads;
 use chip::{Answer, Chip};
-use libc::{STDIN_FILENO, STDOUT_FILENO};
 use script::Step;
+use streams::{STDIN_FILENO, STDOUT_FILENO};
 
 // What a call leaves: its refusal, its answer, what a tick read and the chip.
-#[derive(Drop)]
+#[derive(Clone, Copy)]
 struct Told {
     refused: u8,
     value: u16,

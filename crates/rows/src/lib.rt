@@ -1,11 +1,13 @@
 // The row counters VC, VCBASE, RC and VMLI, the states of the display logic, and the place of the matrix line that waits for the CPU's byte.
+#![tactic(auto)]
+
 ghost use Rattle.std.specs.Prelude.{◌≡◌, ◌<◌, Bool};
 ghost use Rattle.schedule.specs.Diagram.{happens, graphics_access};
 ghost use Rattle.rows.specs.Pending.{place_of, waits, pending_after};
 ghost use Rattle.rows.specs.Rows.{fresh, vc_after, vmli_after, rc_after, access_after, display_after, rowed, rows_later};
 
 // The row counters and the states of the display logic.
-#[derive(Drop)]
+#[derive(Clone, Copy)]
 pub struct Rows {
     pub vc: u16,
     pub vcbase: u16,
@@ -19,7 +21,7 @@ pub struct Rows {
 }
 
 // What the display logic does in a cycle, and the numbers that its accesses find.
-#[derive(Drop)]
+#[derive(Clone, Copy)]
 pub struct Rowed {
     pub rows: Rows,
     pub vc: u16,
@@ -32,14 +34,14 @@ pub struct Rowed {
 }
 
 // A place of the matrix line whose colour nibble is still to come from the CPU's side of the bus.
-#[derive(Drop)]
+#[derive(Clone, Copy)]
 pub enum Pending {
     Nothing,
     At(u8),
 }
 
 // What waits for the CPU's byte, in a record of its own: a place that comes or goes is then no new side.
-#[derive(Drop)]
+#[derive(Clone, Copy)]
 pub struct Waits {
     pub place: Pending,
 }

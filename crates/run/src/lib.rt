@@ -1,4 +1,6 @@
 // A run file's step, done on a chip: one call of the sequencer, or another bank.
+#![tactic(auto)]
+
 ghost use Rattle.std.specs.Prelude.{◌≡◌};
 ghost use Rattle.memory.specs.Lent.{host};
 ghost use Rattle.run.specs.Run.{from_answer, from_chip, done_of};
@@ -8,7 +10,7 @@ use chip::{Answer, Chip};
 use script::Step;
 
 // The number of the refusal, 0 for none, the chip and the bank after the step, and a tick's reads.
-#[derive(Drop)]
+#[derive(Clone, Copy)]
 pub struct Done {
     pub refused: u8,
     pub chip: Chip,

@@ -1,5 +1,7 @@
 // A saved chip: its 311 bytes, and the chip that bytes hold. The format is `Scene`: version 5 is written, and versions 1 to 4 are read too.
 // Every field has a fixed place, numbers lie low byte first, and a flag is 0 or 1.
+#![tactic(auto)]
+
 ghost use Rattle.std.specs.Prelude.{◌≡◌, ◌∷◌, [], ◌+◌, ◌*◌, ◌/◌, ◌%◌, ◌≤◌, ◌<◌, length};
 ghost use Rattle.laws.specs.Bytes.{low_byte, high_byte};
 ghost use Rattle.scene.specs.Numbers.{bits, clock_of, count_byte, aec_of, place_byte, pending_of, word_at, long_at, clock_at};
@@ -20,7 +22,7 @@ use sprites::{Sprite, Sprites};
 use timing::Beam;
 
 // What bytes hold: whether they are a scene, and its chip, or the chip at power-up where they are none.
-#[derive(Drop)]
+#[derive(Clone, Copy)]
 pub struct Decoded {
     pub scene: bool,
     pub chip: Chip,

@@ -1,6 +1,6 @@
 -- The table of reads, taken apart: what a cycle reads with a graphics access, in a slot, in a refresh cycle and in the gaps, and that every cycle of the line reads once or twice, a phase each. Assumes nothing.
 use mathlib.Core.Path.{◌≡◌, refl, ap, subst, sym}
-use mathlib.Core.Bool.{Bool, true, false, not, ◌&&◌, ◌||◌, cond}
+use mathlib.Core.Bool.{Bool, true, false, not, ◌&&◌, ◌||◌}
 use mathlib.Core.List.{List, [], ◌∷◌, ◌++◌, append-nil, map}
 use mathlib.Core.Logic.{◌⊎◌, inl, inr}
 use Prim.Native.Nat.{ℕ, ◌<◌, ◌≤◌}
@@ -15,7 +15,7 @@ use Rattle.schedule.specs.Kind.{Kind, the6569, the6567_r8, last_cycle}
 use Rattle.schedule.specs.Diagram.{happens, refresh, character_access, graphics_access, on_line, pointer_time, data_time, slot_sprite}
 use Rattle.schedule.specs.Reads.{Access, pointer, byte_two, byte_one, byte_zero, refreshing, matrix, graphics, idle, Seen, phase, when, sees_two, sees_zero, accesses}
 use Rattle.schedule.proofs.Places.{last_most}
-use Rattle.schedule.proofs.Parts.{Slotless, Lit, lit, slotless}
+use Rattle.schedule.proofs.Parts.{lit, slotless}
 
 -- ---- which events share no cycle
 

@@ -1,4 +1,6 @@
 // The schedule of a line: what the kind of chip decides, when each event happens, which sprites ask for the bus, and how many have DMA.
+#![tactic(auto)]
+
 ghost use Rattle.std.specs.Prelude.{◌≡◌, Bool};
 ghost use Rattle.schedule.specs.Kind.{known, kind_of, last_cycle, last_line, first_pointer};
 ghost use Rattle.schedule.specs.Diagram.{Event, line_begins, frame_ends, refresh, matrix_request, vc_load, access_chosen, character_access, vmli_counts, graphics_access, late_idle, access_ends, graphics_cleared, row_ends, crunch, mcbase_step, first_phase, second_phase, mc_load, main_remembered, left40, left38, right38, right40, line_ends, happens, slot_after_bus};
@@ -203,7 +205,7 @@ pub fn before_graphics(cycle: u16) -> bool
 // ---- why a cycle reads
 
 // The reasons of a cycle's reads, in order, 0 for none.
-#[derive(Drop)]
+#[derive(Clone, Copy)]
 pub struct Reasons {
     pub first: u8,
     pub second: u8,

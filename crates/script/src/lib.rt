@@ -1,4 +1,6 @@
 // The run file: what stands at a place of its bytes, one record at a time.
+#![tactic(auto)]
+
 ghost use Rattle.std.specs.Prelude.{◌≡◌, Bool, ◌-◌, ◌≤◌, ◌<◌, length, drop};
 ghost use Rattle.laws.specs.Bytes.{word};
 ghost use Rattle.script.specs.Step.{allowed_if, step_decoded, step_of, bytes_of};
@@ -7,7 +9,7 @@ ghost use Rattle.script.specs.Machinery.Cursor.{step_from, at_step, changes_begu
 ghost use Rattle.script.specs.Machinery.Block.{block_steps, block_len, block_from};
 
 // A step of the run, with its fields as 01 lists them.
-#[derive(Drop)]
+#[derive(Clone, Copy)]
 pub enum Step {
     Tick,
     Write(u8, u8),
@@ -21,28 +23,28 @@ pub enum Step {
 }
 
 // What stands in a step's five bytes: the step, or the number of the refusal.
-#[derive(Drop)]
+#[derive(Clone, Copy)]
 pub enum Read {
     Got(Step),
     Refused(u8),
 }
 
 // The count of a section, or the number of the refusal.
-#[derive(Drop)]
+#[derive(Clone, Copy)]
 pub enum Count {
     Of(u16),
     Refused(u8),
 }
 
 // A change of a memory, or the number of the refusal.
-#[derive(Drop)]
+#[derive(Clone, Copy)]
 pub enum Change {
     Set { address: u16, value: u8 },
     Refused(u8),
 }
 
 // The parts of a run file; at Start none is begun.
-#[derive(Drop)]
+#[derive(Clone, Copy)]
 pub enum Part {
     Start,
     Ram,
@@ -52,7 +54,7 @@ pub enum Part {
 }
 
 // What a run file says, one after the other: a memory's count and its changes, the count of the steps and the steps, the end.
-#[derive(Drop)]
+#[derive(Clone, Copy)]
 pub enum Item {
     Changes(Part, u16),
     Change(Part, u16, u8),
@@ -63,7 +65,7 @@ pub enum Item {
 }
 
 // A place of a run file, the part that it lies in, and how many records of that part are left.
-#[derive(Drop)]
+#[derive(Clone, Copy)]
 pub struct Cursor {
     pub at: usize,
     pub part: Part,
@@ -71,7 +73,7 @@ pub struct Cursor {
 }
 
 // What stands at a cursor, and the cursor past it; at the end and at a fault the cursor stays.
-#[derive(Drop)]
+#[derive(Clone, Copy)]
 pub struct Found {
     pub item: Item,
     pub cursor: Cursor,
@@ -410,7 +412,7 @@ pub fn block<'a>(s: &'a [u8], at: usize, left: u16) -> &'a [u8]
 
 // ---- the reader that holds the lent steps and its place
 
-#[derive(Drop)]
+#[derive(Clone, Copy)]
 pub struct Steps<'a> {
     pub script: &'a [u8],
     pub at: usize,

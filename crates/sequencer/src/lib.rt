@@ -1,5 +1,7 @@
 // The tick, a line as a whole, and runs of both.
 // A call asks nothing of its caller: what it does not take it refuses by number, with the state unchanged.
+#![tactic(auto)]
+
 ghost use Rattle.std.specs.Prelude.{◌≡◌, Bool, not, ◌-◌, ◌<◌, ◌≤◌, length, ℤ};
 ghost use Rattle.laws.specs.Clock.{InRange, CanTick};
 ghost use Rattle.memory.specs.Lent.{host, lent_refusal};
@@ -23,21 +25,21 @@ use registers::Registers;
 use side::Side;
 
 // What a tick leaves, and its reads in one number.
-#[derive(Drop)]
+#[derive(Clone, Copy)]
 pub struct Stepped {
     pub core: Core,
     pub noted: u64,
 }
 
 // How many ticks a part of a run did, what it left, and what its last tick read.
-#[derive(Drop)]
+#[derive(Clone, Copy)]
 pub struct Gone {
     pub done: u64,
     pub core: Core,
     pub noted: u64,
 }
 
-#[derive(Drop)]
+#[derive(Clone, Copy)]
 pub struct Ran {
     pub refused: u8,
     pub core: Core,

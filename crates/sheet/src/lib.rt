@@ -1,4 +1,6 @@
 // The chart of a run file: what the driver has to tell of each turn, as text in a lent buffer; and that text written out, a block at a time.
+#![tactic(auto)]
+
 ghost use Rattle.std.specs.Prelude.{◌≡◌, true, false, ◌+◌, ◌≤◌, ◌<◌, length};
 ghost use Rattle.script.specs.Machinery.Cursor.{at_step};
 ghost use Rattle.line.specs.Text.{Written};
@@ -9,11 +11,11 @@ ghost use Rattle.sheet.specs.Chart.{chart_of, end, ended_of, Ends};
 
 use chip::Chip;
 use driver::Event;
-use libc::STDOUT_FILENO;
 use script::{Cursor, Found};
+use streams::STDOUT_FILENO;
 
 // A run on its way: `done` steps are done, and the text goes on at `at`.
-#[derive(Drop)]
+#[derive(Clone, Copy)]
 pub struct Run {
     pub chip: Chip,
     pub cursor: Cursor,

@@ -1,4 +1,6 @@
 // The timing side of the chip, and its step: a tick is handed the timing registers and nothing of the picture.
+#![tactic(auto)]
+
 ghost use Rattle.std.specs.Prelude.{◌≡◌, Bool, ◌<◌};
 ghost use Rattle.laws.specs.Clock.{InRange};
 ghost use Rattle.schedule.specs.Kind.{kind_of};
@@ -19,7 +21,7 @@ use rows::{Pending, Rows, Waits};
 use sprites::Sprites;
 use timing::Beam;
 
-#[derive(Drop)]
+#[derive(Clone, Copy)]
 pub struct Side {
     pub irq: Irq,
     pub beam: Beam,
@@ -36,7 +38,7 @@ pub struct Side {
 }
 
 // What the timing side tells the picture to do in a cycle: numbers and no picture value.
-#[derive(Drop)]
+#[derive(Clone, Copy)]
 pub struct Orders {
     pub cycle: u16,
     pub graphics: bool,
@@ -60,7 +62,7 @@ pub struct Orders {
     pub refresh: u8,
 }
 
-#[derive(Drop)]
+#[derive(Clone, Copy)]
 pub struct Turned {
     pub side: Side,
     pub orders: Orders,

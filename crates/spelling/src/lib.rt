@@ -1,4 +1,6 @@
 // The words of a capture: whether two are the same, which signal a name is, the digits of a value and of a time.
+#![tactic(auto)]
+
 ghost use Rattle.std.specs.Prelude.{◌≡◌, ◌||◌, not, [], ◌+◌, ◌*◌, ◌<◌, ◌≤◌, eqb, drop};
 ghost use Rattle.grammar.specs.Words.{same, lower, name_of};
 ghost use Rattle.grammar.specs.Signals.{which_of, size_of, width_of, full_of};

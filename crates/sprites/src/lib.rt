@@ -1,11 +1,13 @@
 // The eight sprites' counters: DMA, MCBASE, MC, the expansion flip-flops and the display mask.
+#![tactic(auto)]
+
 ghost use Rattle.std.specs.Prelude.{◌≡◌, Bool, ◌<◌, ◌≤◌};
 ghost use Rattle.schedule.specs.Kind.{kind_of};
 ghost use Rattle.sprites.specs.Sprites.{fresh, all_fresh, sprite_at, sprite_at≔, crunched, next_base, mask_after, step_one, mcbase_stepped, dma_begun, start_one, started, first_phased, second_phased, load_one, loaded, show_one, shown, mc_loaded, clear_after, flip_after, expand_written, fetched};
 ghost use Rattle.sprites.specs.Fine.{fine_one, fine_test};
 
 // A number of four bytes, so that a record moves as one value and not byte by byte (PERFORMANCE).
-#[derive(Drop)]
+#[derive(Clone, Copy)]
 pub struct Sprite {
     pub number: u32,
     pub mc: u8,
@@ -13,7 +15,7 @@ pub struct Sprite {
 }
 
 // The masks have sprite k at bit k.
-#[derive(Drop)]
+#[derive(Clone, Copy)]
 pub struct Sprites {
     pub each: [Sprite; 8],
     pub flip: u8,

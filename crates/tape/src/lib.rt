@@ -1,4 +1,6 @@
 // The dump of a run file: what the driver has to tell of each turn, as pieces of text in a lent buffer; and that text written out, a block at a time.
+#![tactic(auto)]
+
 ghost use Rattle.std.specs.Prelude.{◌≡◌, ◌+◌, ◌≤◌, length};
 ghost use Rattle.line.specs.Text.{Written};
 ghost use Rattle.driver.specs.Driver.{store, store_at};
@@ -10,12 +12,12 @@ ghost use Rattle.tape.specs.Machinery.Tape.{text_by, wave_by, tape, begun_of, ro
 
 use chip::Chip;
 use driver::{Event, Run};
-use libc::STDOUT_FILENO;
 use script::Found;
+use streams::STDOUT_FILENO;
 use vcd::Wave;
 
 // A run on its way: the ticks written so far, and the text goes on at `at`.
-#[derive(Drop)]
+#[derive(Clone, Copy)]
 pub struct Tape {
     pub run: Run,
     pub wave: Wave,
@@ -23,7 +25,7 @@ pub struct Tape {
 }
 
 // The same of a turn.
-#[derive(Drop)]
+#[derive(Clone, Copy)]
 pub struct Noted {
     pub wave: Wave,
     pub at: usize,

@@ -1,9 +1,11 @@
 // The beam: cycle and raster line, the DEN latch, the bad line with its rise, and the BA output that a bad line asks for.
+#![tactic(auto)]
+
 ghost use Rattle.std.specs.Prelude.{◌≡◌, Bool};
 ghost use Rattle.schedule.specs.Kind.{kind_of};
 ghost use Rattle.timing.specs.Beam.{bad_line, latched, ba_output, next_cycle, at_last_line, next_line, fresh, beam_turned};
 
-#[derive(Drop)]
+#[derive(Clone, Copy)]
 pub struct Beam {
     // the kind of chip: 0 the 6569, 1 the 6567R8
     pub kind: u8,

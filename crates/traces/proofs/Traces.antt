@@ -23,26 +23,26 @@ computed : TracesOf known
 unfolding ticked
 computed =
     record {
-      raster-0 = refl;
-      interrupt-0 = refl;
-      latch-48 = refl;
-      raster-51 = refl;
-      interrupt-51 = refl;
-      border-opens = refl;
-      border-closes = refl;
-      row-begins = refl;
+      raster_0 = refl;
+      interrupt_0 = refl;
+      latch_48 = refl;
+      raster_51 = refl;
+      interrupt_51 = refl;
+      border_opens = refl;
+      border_closes = refl;
+      row_begins = refl;
       row_ends = refl;
-      sprite-plain = refl;
-      sprite-expanded = refl;
-      sprite-ends = refl;
+      sprite_plain = refl;
+      sprite_expanded = refl;
+      sprite_ends = refl;
       bus = refl;
-      vcbase-312 = refl;
-      latch-312 = refl;
-      refresh-51 = refl;
-      refresh-312 = refl;
-      refresh-reads-0 = refl;
-      refresh-reads-51 = refl;
-      refresh-reads-312 = refl;
+      vcbase_312 = refl;
+      latch_312 = refl;
+      refresh_51 = refl;
+      refresh_312 = refl;
+      refresh_reads_0 = refl;
+      refresh_reads_51 = refl;
+      refresh_reads_312 = refl;
     }
 
 seen : {A : Type 0} (see : Side → A) {s t : Side} {e : A} → s ≡ t → see t ≡ e → see s ≡ e
@@ -51,26 +51,26 @@ seen see p q = ap see p ∙ q
 pub traces : Traces
 traces =
     record {
-      raster-0 = computed.raster-0;
-      interrupt-0 = computed.interrupt-0;
-      latch-48 = seen (λ s. latch_of (lines 2 s)) reached_47 computed.latch-48;
-      raster-51 = seen (λ s. raster_of (lines 2 s)) reached_50 computed.raster-51;
-      interrupt-51 = seen (λ s. flags_of (lines 2 s)) reached_50 computed.interrupt-51;
-      border-opens = seen (λ s. border_of (lines 2 s)) reached_50 computed.border-opens;
-      border-closes = seen (λ s. border_of (lines 2 s)) reached_250 computed.border-closes;
-      row-begins = seen (λ s. row_of (lines 1 s)) reached_59 computed.row-begins;
+      raster_0 = computed.raster_0;
+      interrupt_0 = computed.interrupt_0;
+      latch_48 = seen (λ s. latch_of (lines 2 s)) reached_47 computed.latch_48;
+      raster_51 = seen (λ s. raster_of (lines 2 s)) reached_50 computed.raster_51;
+      interrupt_51 = seen (λ s. flags_of (lines 2 s)) reached_50 computed.interrupt_51;
+      border_opens = seen (λ s. border_of (lines 2 s)) reached_50 computed.border_opens;
+      border_closes = seen (λ s. border_of (lines 2 s)) reached_250 computed.border_closes;
+      row_begins = seen (λ s. row_of (lines 1 s)) reached_59 computed.row_begins;
       row_ends = seen (λ s. row_of (lines 1 s)) reached_66 computed.row_ends;
-      sprite-plain = seen (λ s. one_of 0 (lines 2 s)) reached_51 computed.sprite-plain;
-      sprite-expanded = seen (λ s. one_of 3 (lines 3 s)) reached_51 computed.sprite-expanded;
-      sprite-ends = seen (λ s. one_of 0 (lines 1 s)) reached_72 computed.sprite-ends;
+      sprite_plain = seen (λ s. one_of 0 (lines 2 s)) reached_51 computed.sprite_plain;
+      sprite_expanded = seen (λ s. one_of 3 (lines 3 s)) reached_51 computed.sprite_expanded;
+      sprite_ends = seen (λ s. one_of 0 (lines 1 s)) reached_72 computed.sprite_ends;
       bus = seen (λ s. bus_of (lines 2 s)) reached_59 computed.bus;
-      vcbase-312 = seen (λ s. (row_of (lines 1 s)).vcbase) reached_312 computed.vcbase-312;
-      latch-312 = seen (λ s. latch_of (lines 1 s)) reached_312 computed.latch-312;
-      refresh-51 = seen (λ s. refresh_of (lines 2 s)) reached_50 computed.refresh-51;
-      refresh-312 = seen (λ s. refresh_of (lines 1 s)) reached_312 computed.refresh-312;
-      refresh-reads-0 = computed.refresh-reads-0;
-      refresh-reads-51 = seen (refresh_reads 63) reached_51 computed.refresh-reads-51;
-      refresh-reads-312 = seen (refresh_reads 63) reached_312 computed.refresh-reads-312;
+      vcbase_312 = seen (λ s. (row_of (lines 1 s)).vcbase) reached_312 computed.vcbase_312;
+      latch_312 = seen (λ s. latch_of (lines 1 s)) reached_312 computed.latch_312;
+      refresh_51 = seen (λ s. refresh_of (lines 2 s)) reached_50 computed.refresh_51;
+      refresh_312 = seen (λ s. refresh_of (lines 1 s)) reached_312 computed.refresh_312;
+      refresh_reads_0 = computed.refresh_reads_0;
+      refresh_reads_51 = seen (refresh_reads 63) reached_51 computed.refresh_reads_51;
+      refresh_reads_312 = seen (refresh_reads 63) reached_312 computed.refresh_reads_312;
     }
 
 -- the 6567R8
@@ -79,14 +79,14 @@ known8 n = cond (eqb n 0) (begun_of 1) (cond (eqb n 51) before8_51 before8_59)
 
 computed8 : TracesOf8 known8
 unfolding ticked
-computed8 = record { raster-0 = refl; refresh-reads-0 = refl; sprite-plain = refl; sprite-expanded = refl; bus = refl }
+computed8 = record { raster_0 = refl; refresh_reads_0 = refl; sprite_plain = refl; sprite_expanded = refl; bus = refl }
 
 pub traces8 : Traces8
 traces8 =
     record {
-      raster-0 = computed8.raster-0;
-      refresh-reads-0 = computed8.refresh-reads-0;
-      sprite-plain = seen (λ s. one_of 0 (lines8 2 s)) reached8_51 computed8.sprite-plain;
-      sprite-expanded = seen (λ s. one_of 3 (lines8 3 s)) reached8_51 computed8.sprite-expanded;
+      raster_0 = computed8.raster_0;
+      refresh_reads_0 = computed8.refresh_reads_0;
+      sprite_plain = seen (λ s. one_of 0 (lines8 2 s)) reached8_51 computed8.sprite_plain;
+      sprite_expanded = seen (λ s. one_of 3 (lines8 3 s)) reached8_51 computed8.sprite_expanded;
       bus = seen (λ s. bus_of (lines8 2 s)) reached8_59 computed8.bus;
     }

@@ -154,45 +154,45 @@ border_of sides = column (λ s. (s.border.vertical, s.border.main)) sides
 -- What the ticks leave, where `before n` is the side before line n
 pub record TracesOf (before : ℕ → Side) : Type 0 where
   -- Line 0
-  pub raster-0 :
+  pub raster_0 :
       raster_of (lines 1 (before 0)) ≡
       holds 1 1 311  -- Bauer 3.12, DIFFERENCES 8: line 311 stays for cycle 1
       ++ holds 2 63 0
   -- the same, with an interrupt asked for on line 0
-  pub interrupt-0 :
+  pub interrupt_0 :
       flags_of (each (screen 0) 63 begun) ≡
       holds 1 1 0
       ++ holds 2 63 1  -- Bauer 3.12: for line 0 the raster test is in cycle 2
   -- Lines 47 and 48
-  pub latch-48 :
+  pub latch_48 :
       latch_of (lines 2 (before 47)) ≡
       holds 1 63 off
       ++ holds 1 63 on  -- Bauer 3.5, DIFFERENCES 2: DEN counts on line 0x30, here from its cycle 1
   -- Lines 50 and 51
-  pub raster-51 :
+  pub raster_51 :
       raster_of (lines 2 (before 50)) ≡
       holds 1 63 50
       ++ holds 1 63 51  -- a line begins with cycle 1
-  pub interrupt-51 :
+  pub interrupt_51 :
       flags_of (lines 2 (before 50)) ≡
       holds 1 63 0
       ++ holds 1 63 1  -- Bauer 3.12: the raster test is in cycle 1
   -- Lines 50 and 51, the first of the picture: the vertical and the main border flip-flop
-  pub border-opens :
+  pub border_opens :
       border_of (lines 2 (before 50)) ≡
       holds 1 63 (on, on)
       ++ holds 1 16 (off, on)  -- Bauer 3.9 rules 3 and 5: the top line with DEN resets the vertical one; DIFFERENCES 6: in cycle 1 already
       ++ holds 17 56 (off, off)  -- rule 6: left compare, the main one is reset
       ++ holds 57 63 (off, on)  -- rule 1: right compare, it is set
   -- Lines 250 and 251, the last of the picture and the first below it
-  pub border-closes :
+  pub border_closes :
       border_of (lines 2 (before 250)) ≡
       holds 1 16 (off, on)
       ++ holds 17 56 (off, off)
       ++ holds 57 63 (off, on)
       ++ holds 1 63 (on, on)  -- rules 2 and 4: the bottom line sets the vertical one; DIFFERENCES 6: in cycle 1 already; rule 6: so the main one stays set
   -- Line 59, a bad line: the first of the second row of text. Line 58 left VC and VCBASE 40, RC 7 and idle state
-  pub row-begins :
+  pub row_begins :
       row_of (lines 1 (before 59)) ≡ record {
         display = holds 1 63 on;  -- Bauer 3.7.2: display state as soon as there is a bad line
         vc =
@@ -225,7 +225,7 @@ pub record TracesOf (before : ℕ → Side) : Type 0 where
         vcbase = holds 1 57 40 ++ holds 58 63 80;  -- rule 5: RC 7, VCBASE takes VC
       }
   -- Lines 51 and 52: sprite 0, pointer and first byte in cycle 58, two bytes in 59
-  pub sprite-plain :
+  pub sprite_plain :
       one_of 0 (lines 2 (before 51)) ≡ record {
         dma = holds 1 54 off ++ holds 55 63 on ++ holds 1 63 on;  -- Bauer 3.8.1 rule 3: Y equals the line in cycle 55
         flip = holds 1 63 on ++ holds 1 63 on;  -- rule 1: not expanded
@@ -241,7 +241,7 @@ pub record TracesOf (before : ℕ → Side) : Type 0 where
             ++ holds 59 63 6;
       }
   -- Lines 51, 52 and 53: sprite 3, pointer and first byte in cycle 1 of the next line, two bytes in 2
-  pub sprite-expanded :
+  pub sprite_expanded :
       one_of 3 (lines 3 (before 51)) ≡ record {
         dma = holds 1 54 off ++ holds 55 63 on ++ holds 1 63 on ++ holds 1 63 on;
         flip =
@@ -265,7 +265,7 @@ pub record TracesOf (before : ℕ → Side) : Type 0 where
             ++ holds 58 63 3;  -- rule 4: MCBASE is 3
       }
   -- Line 72: sprite 0 after its 21 lines
-  pub sprite-ends :
+  pub sprite_ends :
       one_of 0 (lines 1 (before 72)) ≡ record {
         dma = holds 1 15 on ++ holds 16 63 off;  -- rule 8: MCBASE 63 ends DMA
         flip = holds 1 63 on;
@@ -296,16 +296,16 @@ pub record TracesOf (before : ℕ → Side) : Type 0 where
       ++ holds 60 60 (high, high)
       ++ holds 61 63 (low, high)
   -- Line 0 of the second frame: VCBASE and the DEN latch
-  pub vcbase-312 :
+  pub vcbase_312 :
       (row_of (lines 1 (before 312))).vcbase ≡
       holds 1 1 1000
       ++ holds 2 63 0  -- Bauer 3.7.2 rule 1; DIFFERENCES 8: in cycle 2
-  pub latch-312 :
+  pub latch_312 :
       latch_of (lines 1 (before 312)) ≡
       holds 1 1 on
       ++ holds 2 63 off  -- Bauer 3.5: once a frame; DIFFERENCES 8: in cycle 2
   -- Lines 50 and 51, and line 0 of the second frame: the refresh counter
-  pub refresh-51 :
+  pub refresh_51 :
       refresh_of (lines 2 (before 50)) ≡
       holds 1 10 5
       ++ counts_down 11 15 4  -- Bauer 3.13: one less after each of the five r-accesses
@@ -313,22 +313,22 @@ pub record TracesOf (before : ℕ → Side) : Type 0 where
       ++ holds 1 10 0
       ++ counts_down 11 15 0xFF  -- 02 (xiv): 0 is followed by 0xFF
       ++ holds 16 63 0xFB
-  pub refresh-312 :
+  pub refresh_312 :
       refresh_of (lines 1 (before 312)) ≡
       holds 1 1 0xE7
       ++ holds 2 10 0xFF  -- Bauer 3.13: once a frame; 02 (xiv): in cycle 2
       ++ counts_down 11 15 0xFE
       ++ holds 16 63 0xFA
   -- Lines 0 and 1, line 51, and line 0 of the second frame: the refresh accesses
-  pub refresh-reads-0 :
+  pub refresh_reads_0 :
       refresh_reads (63 * 2) (before 0) ≡
       counts_down 11 15 0x3FFF  -- Bauer 3.13: line 0 has 0x3FFF to 0x3FFB
       ++ counts_down 11 15 0x3FFA  -- and line 1 0x3FFA to 0x3FF6
-  pub refresh-reads-51 :
+  pub refresh_reads_51 :
       refresh_reads 63 (before 51) ≡
       holds 11 11 0x3F00
       ++ counts_down 12 15 0x3FFF  -- 02 (xiv): 0 is followed by 0xFF
-  pub refresh-reads-312 :
+  pub refresh_reads_312 :
       refresh_reads 63 (before 312) ≡
       counts_down 11 15 0x3FFF  -- Bauer 3.13: line 0 again
 
@@ -346,17 +346,17 @@ lines8 n s = each (screen 51) (65 * n) s
 
 pub record TracesOf8 (before : ℕ → Side) : Type 0 where
   -- Line 0
-  pub raster-0 :
+  pub raster_0 :
       raster_of (lines8 1 (before 0)) ≡
       holds 1 1 262  -- Bauer 3.4: line 262 is the last; DIFFERENCES 8: it stays for cycle 1
       ++ holds 2 65 0
   -- Lines 0 and 1: the refresh accesses
-  pub refresh-reads-0 :
+  pub refresh_reads_0 :
       refresh_reads (65 * 2) (before 0) ≡
       counts_down 11 15 0x3FFF  -- Bauer 3.13, as on the 6569
       ++ counts_down 11 15 0x3FFA
   -- Lines 51 and 52: sprite 0, pointer and first byte in cycle 59, two bytes in 60
-  pub sprite-plain :
+  pub sprite_plain :
       one_of 0 (lines8 2 (before 51)) ≡ record {
         dma = holds 1 55 off ++ holds 56 65 on ++ holds 1 65 on;  -- Bauer 3.8.1 rule 3; DIFFERENCES 30: in cycle 56
         flip = holds 1 65 on ++ holds 1 65 on;
@@ -370,7 +370,7 @@ pub record TracesOf8 (before : ℕ → Side) : Type 0 where
             ++ holds 60 65 6;
       }
   -- Lines 51, 52 and 53: sprite 3, pointer and first byte in a line's last cycle, two bytes in the next line's first
-  pub sprite-expanded :
+  pub sprite_expanded :
       one_of 3 (lines8 3 (before 51)) ≡ record {
         dma = holds 1 55 off ++ holds 56 65 on ++ holds 1 65 on ++ holds 1 65 on;
         flip = holds 1 65 off ++ holds 1 55 off ++ holds 56 65 on ++ holds 1 55 on ++ holds 56 65 off;  -- rule 2, in cycle 56

@@ -1,11 +1,13 @@
 // The text of a Value Change Dump, piece by piece, in a lent buffer.
+#![tactic(auto)]
+
 ghost use Rattle.std.specs.Prelude.{◌≡◌, [], ◌∷◌, ◌++◌, ◌+◌, ◌-◌, ◌≤◌, ◌<◌, ◌%◌, length};
 ghost use Rattle.line.specs.Text.{pasted, Written};
 ghost use Rattle.vcd.specs.Text.{declarations, digits_of, value_text, mark_text, first_text, later_text, refusal_text, next_time, time_of, piece_of, wave_after, fresh};
 ghost use Rattle.vcd.specs.Machinery.Steps.{part_text, beam_text, rest_text};
 
 // A tick's values, in the order of the declarations: 0 is low.
-#[derive(Drop)]
+#[derive(Clone, Copy)]
 pub struct Record {
     pub cycle: u16,
     pub raster: u16,
@@ -18,7 +20,7 @@ pub struct Record {
 }
 
 // A dump on its way: whether a tick is written, its time and its values.
-#[derive(Drop)]
+#[derive(Clone, Copy)]
 pub struct Wave {
     pub begun: bool,
     pub time: u64,

@@ -1,4 +1,6 @@
 // The versions of a saved scene: which one bytes are, and the bytes of an older one as the next.
+#![tactic(auto)]
+
 ghost use Rattle.std.specs.Prelude.{◌≡◌, ◌+◌, ◌≤◌, ◌<◌, length};
 ghost use Rattle.versions.specs.Put.{Put};
 ghost use Rattle.versions.specs.Versions.{is_version, grown, sprite_flags, is_flagged, unflagged};

@@ -1,4 +1,6 @@
 // A chip as a waveform viewer shows it: the declarations, and the tick that writes its piece into a lent buffer.
+#![tactic(auto)]
+
 ghost use Rattle.std.specs.Prelude.{◌≡◌, ◌≤◌, length};
 ghost use Rattle.memory.specs.Lent.{host};
 ghost use Rattle.wave.specs.Wave.{record_of, declared_in, told, heard, wrote_tick, number_of, tick_heard};
@@ -7,14 +9,14 @@ use chip::Chip;
 use vcd::{Record, Wave};
 
 // The number of the refusal, 0 for none, and how many bytes are written.
-#[derive(Drop)]
+#[derive(Clone, Copy)]
 pub struct Wrote {
     pub refused: u8,
     pub length: usize,
 }
 
 // The same of a tick, with the chip and the dump after it.
-#[derive(Drop)]
+#[derive(Clone, Copy)]
 pub struct Told {
     pub refused: u8,
     pub chip: Chip,

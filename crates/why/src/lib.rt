@@ -1,1 +1,2 @@
 // Why the CPU stops: definitions and theorems alone.
+#![tactic(auto)]

@@ -1,1 +1,2 @@
 // The worked examples that are settled by proof; their table is in specs/Worked.antt.
+#![tactic(auto)]

@@ -1,0 +1,20 @@
+use native.Mathlib.Omega.{arith}
+use Rattle.ask.proofs.all.Goals as goal
+
+pub loop-turns-init : goal.loop-turns-init
+loop-turns-init c = tt
+
+pub overflow_sub-turns : goal.overflow_sub-turns
+overflow_sub-turns c = omega arith
+
+pub loop-turns-smaller : goal.loop-turns-smaller
+loop-turns-smaller c = omega arith
+
+pub loop-turns-preserved : goal.loop-turns-preserved
+loop-turns-preserved c = tt
+
+pub returns-else-one : goal.returns-else-one
+returns-else-one c = tt
+
+pub returns-after-loop-turns : goal.returns-after-loop-turns
+returns-after-loop-turns c = tt

@@ -1,0 +1,11 @@
+use Rattle.fetches.specs.Fetches.{place_late}
+use Rattle.fetches.proofs.Glue.{is_67, is_69}
+use Rattle.fetches.proofs.place_late.Goals as goal
+
+pub returns-then-kind-eq-KIND_6567R8 : goal.returns-then-kind-eq-KIND_6567R8
+unfolding place_late
+returns-then-kind-eq-KIND_6567R8 c = rw (is_67 _ c.if-kind-eq-KIND_6567R8.true)
+
+pub returns : goal.returns
+unfolding place_late
+returns c = rw (is_69 _ c.if-kind-eq-KIND_6567R8.false)

@@ -1,4 +1,0 @@
-pub mod Line
-pub mod Flag
-pub mod Left
-pub mod Alone

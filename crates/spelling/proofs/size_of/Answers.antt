@@ -1,0 +1,32 @@
+use mathlib.Core.Path.{sym, ◌∙◌}
+use Rattle.grammar.specs.Signals.{size_of}
+use Rattle.line.specs.Text.{ascii}
+use Rattle.spelling.proofs.size_of.Goals as goal
+
+pub returns-then-same : goal.returns-then-same
+unfolding size_of ascii
+returns-then-same c = simp (sym c.same.ensures ∙ c.if-same.true)
+
+pub returns-then-same-2 : goal.returns-then-same-2
+unfolding size_of ascii
+returns-then-same-2 c = simp (sym c.same.ensures ∙ c.if-same.false, sym c.same-2.ensures ∙ c.if-same-2.true)
+
+pub returns-then-same-3 : goal.returns-then-same-3
+unfolding size_of ascii
+returns-then-same-3 c = simp (sym c.same.ensures ∙ c.if-same.false, sym c.same-2.ensures ∙ c.if-same-2.false, sym c.same-3.ensures ∙ c.if-same-3.true)
+
+pub returns-then-same-4 : goal.returns-then-same-4
+unfolding size_of ascii
+returns-then-same-4 c = simp (sym c.same.ensures ∙ c.if-same.false, sym c.same-2.ensures ∙ c.if-same-2.false, sym c.same-3.ensures ∙ c.if-same-3.false, sym c.same-4.ensures ∙ c.if-same-4.true)
+
+pub returns-then-same-5 : goal.returns-then-same-5
+unfolding size_of ascii
+returns-then-same-5 c = simp (sym c.same.ensures ∙ c.if-same.false, sym c.same-2.ensures ∙ c.if-same-2.false, sym c.same-3.ensures ∙ c.if-same-3.false, sym c.same-4.ensures ∙ c.if-same-4.false, sym c.same-5.ensures ∙ c.if-same-5.true)
+
+pub returns-then-same-6 : goal.returns-then-same-6
+unfolding size_of ascii
+returns-then-same-6 c = simp (sym c.same.ensures ∙ c.if-same.false, sym c.same-2.ensures ∙ c.if-same-2.false, sym c.same-3.ensures ∙ c.if-same-3.false, sym c.same-4.ensures ∙ c.if-same-4.false, sym c.same-5.ensures ∙ c.if-same-5.false, sym c.same-6.ensures ∙ c.if-same-6.true)
+
+pub returns : goal.returns
+unfolding size_of ascii
+returns c = simp (sym c.same.ensures ∙ c.if-same.false, sym c.same-2.ensures ∙ c.if-same-2.false, sym c.same-3.ensures ∙ c.if-same-3.false, sym c.same-4.ensures ∙ c.if-same-4.false, sym c.same-5.ensures ∙ c.if-same-5.false, sym c.same-6.ensures ∙ c.if-same-6.false)

@@ -1,0 +1,7 @@
+use Rattle.tape.specs.Machinery.Tape.{begun_of}
+use Rattle.tape.proofs.begun.Goals as goal
+
+pub returns : goal.returns
+unfolding begun_of
+returns c =
+    simp (c.on_tape.ensures, c.fresh.ensures, c.begun.ensures)
