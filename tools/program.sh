@@ -58,19 +58,12 @@ if [ -z "${takes-}" ]; then
     esac
 fi
 
-program=$top/target/bin/$crate
+program=$top/crates/$crate/out/$crate
 if [ ! -x "$program" ]; then
     echo "tools/$name: proving and building the program first; that takes some minutes, once" >&2
     "$top/tools/prove" "$crate" </dev/null || exit 2
 fi
-
-run=("$program")
 machine=$(uname -m)
-if [ "$machine" != x86_64 ]; then
-    # the program is x86-64 code: elsewhere the kit has an emulator beside its compiler
-    tools=$(dirname "$(dirname "$(rt doc)")")/on/$machine/toolchain
-    [ -x "$tools/bin/qemu-x86_64" ] || wrong "the program is x86-64 code, this machine is $machine, and the kit has no emulator for it"
-    run=("$tools/bin/qemu-x86_64" "$tools/lib/ld-linux-x86-64.so.2" --library-path "$tools/lib" "$program")
-fi
+[ "$machine" = x86_64 ] || wrong "the program is x86-64 code, and this machine is $machine"
 
-if [ ${#files[@]} -eq 1 ]; then "${run[@]}" <"${files[0]}"; else "${run[@]}"; fi
+if [ ${#files[@]} -eq 1 ]; then "$program" <"${files[0]}"; else "$program"; fi
