@@ -26,11 +26,9 @@ fn byte(x: u64) -> u8 {
 
 fn fill(bytes: &mut [u8], seed: u64) -> u64 {
     let mut x = seed;
-    let mut i = 0usize;
-    while i < bytes.len() {
+    for place in bytes.iter_mut() {
         x = rolled(x);
-        bytes[i] = byte(x);
-        i = i + 1;
+        *place = byte(x);
     }
     x
 }
@@ -47,63 +45,25 @@ fn low(v: u64) -> u8 {
     (v % 256) as u8
 }
 
-fn flag(b: u8) -> u8 {
-    b % 2
-}
-
-// Two bytes of a number; past the scene's end none.
-fn put16(body: &mut [u8; 311], at: usize, v: u64) {
-    if at < 310 {
-        body[at] = low(v);
-        body[at + 1] = low(v / 256);
-    }
-}
-
-fn put64(body: &mut [u8; 311], at: usize, v: u64) {
-    put16(body, at, v);
-    if at < 300 {
-        put16(body, at + 2, v / 65536);
-        put16(body, at + 4, v / 4294967296);
-        put16(body, at + 6, v / 281474976710656);
-    }
+// The low two bytes of a number, the low one first.
+fn word_bytes(v: u64) -> [u8; 2] {
+    ((v % 65536) as u16).to_le_bytes()
 }
 
 fn head(body: &mut [u8; 311], kind: u8) {
-    body[0] = 78;
-    body[1] = 80;
-    body[2] = 83;
-    body[3] = 5;
-    put16(body, 4, schedule::last_cycle(kind) as u64);
+    body[..4].copy_from_slice(b"NPS\x05");
+    body[4..6].copy_from_slice(&schedule::last_cycle(kind).to_le_bytes());
     body[308] = kind;
-    body[309] = body[309] % 64;
+    body[309] %= 64;
 }
 
-// The flags of the beam, the interrupt and the border, which are 0 or 1.
-fn first_flags(body: &mut [u8; 311]) {
-    body[8] = flag(body[8]);
-    body[9] = flag(body[9]);
-    body[11] = flag(body[11]);
-    body[12] = flag(body[12]);
-    body[13] = flag(body[13]);
-    body[58] = flag(body[58]);
-    body[59] = flag(body[59]);
-    body[60] = flag(body[60]);
-    body[61] = flag(body[61]);
-    body[62] = flag(body[62]);
-}
-
-// Those of the bus, the rows and the frame.
-fn other_flags(body: &mut [u8; 311]) {
-    body[257] = flag(body[257]);
-    body[258] = flag(body[258]);
-    body[259] = flag(body[259]);
-    body[260] = flag(body[260]);
-    body[261] = flag(body[261]);
-    body[262] = flag(body[262]);
-    body[265] = flag(body[265]);
-    body[271] = flag(body[271]);
-    body[272] = flag(body[272]);
-    body[273] = flag(body[273]);
+// The flags of the beam, the interrupt and the border, of the bus, the rows and the frame, which are 0 or 1.
+fn flags(body: &mut [u8; 311]) {
+    for at in [
+        8, 9, 11, 12, 13, 58, 59, 60, 61, 62, 257, 258, 259, 260, 261, 262, 265, 271, 272, 273,
+    ] {
+        body[at] %= 2;
+    }
 }
 
 // A counter from -1 to 3, as a byte.
@@ -121,12 +81,12 @@ fn pending(b: u8) -> u8 {
 
 // What is held to a range: VC, RC, VMLI, the modes, the AEC counter, the pending place.
 fn counters(body: &mut [u8; 311]) {
-    body[252] = body[252] % 4;
-    body[254] = body[254] % 4;
-    body[255] = body[255] % 8;
-    body[256] = body[256] % 41;
-    body[263] = body[263] % 8;
-    body[264] = body[264] % 8;
+    body[252] %= 4;
+    body[254] %= 4;
+    body[255] %= 8;
+    body[256] %= 41;
+    body[263] %= 8;
+    body[264] %= 8;
     body[274] = waits(body[274]);
     body[307] = pending(body[307]);
 }
@@ -137,8 +97,8 @@ fn sprite(body: &mut [u8; 311], k: usize, x: u64)
 {
     let at = 75 + 12 * k;
     body[at] = low(k as u64);
-    body[at + 2] = body[at + 2] % 64;
-    body[at + 3] = body[at + 3] % 64;
+    body[at + 2] %= 64;
+    body[at + 3] %= 64;
     body[at + 4] = 0;
     if one_in(4, x) {
         body[at + 2] = 60 + body[at + 2] % 4;
@@ -162,7 +122,7 @@ fn height(body: &mut [u8; 311], k: usize, line: u64, x: u64)
 
 fn sprites(body: &mut [u8; 311], line: u64, seed: u64) -> u64 {
     let mut x = seed;
-    for k in 0..8usize {
+    for k in 0..8 {
         x = rolled(x);
         sprite(body, k, x);
         x = rolled(x);
@@ -211,11 +171,11 @@ fn edge(line: u64, usual: u64, x: u64) -> u64 {
 // The compare line and the border's, all often the line's own; the compare line also the one before, which a frame's end does not leave.
 fn compares(body: &mut [u8; 311], old: u64, line: u64, seed: u64) -> u64 {
     let x = rolled(seed);
-    put16(body, 52, compared(old, line, x));
+    body[52..54].copy_from_slice(&word_bytes(compared(old, line, x)));
     let y = rolled(x);
-    put16(body, 65, edge(line, 0x33 + y / 65536 % 2 * 4, y));
+    body[65..67].copy_from_slice(&word_bytes(edge(line, 0x33 + y / 65536 % 2 * 4, y)));
     let z = rolled(y);
-    put16(body, 67, edge(line, 0xF7 + z / 65536 % 2 * 4, z));
+    body[67..69].copy_from_slice(&word_bytes(edge(line, 0xF7 + z / 65536 % 2 * 4, z)));
     z
 }
 
@@ -254,10 +214,11 @@ fn masks(body: &mut [u8; 311], seed: u64) -> u64 {
 fn clocks(body: &mut [u8; 311], seed: u64) -> u64 {
     let x = rolled(seed);
     let clock = 1000 + x / 256 % 1099511627776;
-    put64(body, 299, clock);
+    body[299..307].copy_from_slice(&clock.to_le_bytes());
     let y = rolled(x);
     let near = clock - 60 + y / 4096 % 240;
-    put64(body, 291, if one_in(2, y) { near } else { y / 4096 });
+    let forced = if one_in(2, y) { near } else { y / 4096 };
+    body[291..299].copy_from_slice(&forced.to_le_bytes());
     y
 }
 
@@ -265,12 +226,11 @@ fn clocks(body: &mut [u8; 311], seed: u64) -> u64 {
 fn made(body: &mut [u8; 311], kind: u8, seed: u64) -> u64 {
     let a = fill(body, seed);
     head(body, kind);
-    first_flags(body);
-    other_flags(body);
+    flags(body);
     counters(body);
     let b = rolled(a);
-    let line = before(schedule::last_line(kind) as u64, b);
-    put16(body, 6, line);
+    let line = before(u64::from(schedule::last_line(kind)), b);
+    body[6..8].copy_from_slice(&word_bytes(line));
     let next = more(line, true);
     let c = sprites(body, next, b);
     let d = compares(body, line, next, c);
@@ -281,45 +241,41 @@ fn made(body: &mut [u8; 311], kind: u8, seed: u64) -> u64 {
 
 // ---- the two of them
 
-fn single(chip: Chip, ram: &[u8], rom: &[u8], colour: &[u8], bank: u8) -> Chip {
-    let answer = sequencer::tick(chip, ram, rom, colour, bank);
-    answer.chip
+// What the host lends.
+#[derive(Clone, Copy)]
+struct Memories<'a> {
+    ram: &'a [u8],
+    rom: &'a [u8],
+    colour: &'a [u8],
 }
 
-fn one_by_one(chip: Chip, ram: &[u8], rom: &[u8], colour: &[u8], bank: u8, n: u64) -> Chip {
+fn single(chip: Chip, memories: Memories<'_>, bank: u8) -> Chip {
+    sequencer::tick(chip, memories.ram, memories.rom, memories.colour, bank).chip
+}
+
+fn one_by_one(chip: Chip, memories: Memories<'_>, bank: u8, n: u64) -> Chip {
     let mut at = chip;
-    let mut left = n;
-    while left > 0 {
-        at = single(at, ram, rom, colour, bank);
-        left = left - 1;
+    for _ in 0..n {
+        at = single(at, memories, bank);
     }
     at
 }
 
-fn as_a_whole(chip: Chip, ram: &[u8], rom: &[u8], colour: &[u8], bank: u8, n: u64) -> Chip {
+fn as_a_whole(chip: Chip, memories: Memories<'_>, bank: u8, n: u64) -> Chip {
     if n == 1 {
-        let answer = sequencer::line(chip, ram, rom, colour, bank);
-        return answer.chip;
+        return sequencer::line(chip, memories.ram, memories.rom, memories.colour, bank).chip;
     }
-    let answer = sequencer::lines(chip, ram, rom, colour, bank, n);
-    answer.chip
+    sequencer::lines(chip, memories.ram, memories.rom, memories.colour, bank, n).chip
 }
 
-// The first place at which two scenes differ, or 311.
-fn first_apart(a: &[u8; 311], b: &[u8; 311]) -> u64 {
-    let mut i = 0usize;
-    while i < 311 {
-        if a[i] != b[i] {
-            return i as u64;
-        }
-        i = i + 1;
-    }
-    311
+// The first place at which two scenes differ.
+fn first_apart(a: &[u8; 311], b: &[u8; 311]) -> Option<usize> {
+    a.iter().zip(b.iter()).position(|(x, y)| x != y)
 }
 
 // The ticks of one line, of two or of three.
 fn ticks_of(n: u64, last: u16) -> u64 {
-    let cycles = last as u64;
+    let cycles = u64::from(last);
     match n {
         1 => cycles,
         2 => cycles + cycles,
@@ -327,10 +283,11 @@ fn ticks_of(n: u64, last: u16) -> u64 {
     }
 }
 
-fn apart(chip: Chip, kind: u8, ram: &[u8], rom: &[u8], colour: &[u8], bank: u8, n: u64) -> u64 {
-    let whole = as_a_whole(chip, ram, rom, colour, bank, n);
+// Where the lines as a whole and the ticks one by one end in scenes that are not alike.
+fn apart(chip: Chip, kind: u8, memories: Memories<'_>, bank: u8, n: u64) -> Option<usize> {
+    let whole = as_a_whole(chip, memories, bank, n);
     let ticks = ticks_of(n, schedule::last_cycle(kind));
-    let ticked = one_by_one(chip, ram, rom, colour, bank, ticks);
+    let ticked = one_by_one(chip, memories, bank, ticks);
     let mut first = [0u8; 311];
     let mut second = [0u8; 311];
     scene::encode(whole, &mut first);
@@ -341,10 +298,7 @@ fn apart(chip: Chip, kind: u8, ram: &[u8], rom: &[u8], colour: &[u8], bank: u8, 
 // ---- what is told
 
 fn more(n: u64, met: bool) -> u64 {
-    if met {
-        return std::num::wrapping_add_u64(n, 1);
-    }
-    n
+    n.wrapping_add(u64::from(met))
 }
 
 // Whether the line that begins is a bad one.
@@ -354,21 +308,15 @@ fn is_bad(body: &[u8; 311], line: u64) -> bool {
     latch & (0x30 <= line) & (line <= 0xF7) & (low(line % 8) == body[50] % 8)
 }
 
-fn pair(low: u8, high: u8) -> u64
-    ensures { result < 65536 }
-{
-    low as u64 + high as u64 * 256
-}
-
 fn word(body: &[u8; 311], at: usize) -> u64
     requires { at < 310 }
     ensures { result < 65536 }
 {
-    pair(body[at], body[at + 1])
+    u64::from(u16::from_le_bytes([body[at], body[at + 1]]))
 }
 
 // How often each corner was met.
-#[derive(Clone, Copy)]
+#[derive(Clone, Copy, Default)]
 struct Met {
     frame_end: u64,
     frame_flag: u64,
@@ -382,23 +330,6 @@ struct Met {
     place: u64,
     transition: u64,
     dma: u64,
-}
-
-fn nothing() -> Met {
-    Met {
-        frame_end: 0,
-        frame_flag: 0,
-        line_30: 0,
-        bad: 0,
-        no_rise: 0,
-        against: 0,
-        crunch: 0,
-        forced: 0,
-        mode: 0,
-        place: 0,
-        transition: 0,
-        dma: 0,
-    }
 }
 
 // A clock by its low six bytes.
@@ -423,7 +354,7 @@ fn is_forced(body: &[u8; 311], cycle: u64) -> bool {
 }
 
 fn tally(met: Met, body: &[u8; 311], kind: u8) -> Met {
-    let last = schedule::last_line(kind) as u64;
+    let last = u64::from(schedule::last_line(kind));
     let raster = word(body, 6);
     let bad = is_bad(body, more(raster, true));
     let low = body[257] == 1;
@@ -437,7 +368,7 @@ fn tally(met: Met, body: &[u8; 311], kind: u8) -> Met {
         crunch: more(met.crunch, body[70] != 0),
         forced: more(
             met.forced,
-            is_forced(body, schedule::last_cycle(kind) as u64),
+            is_forced(body, u64::from(schedule::last_cycle(kind))),
         ),
         mode: more(met.mode, body[265] == 1),
         place: more(met.place, body[307] != 255),
@@ -479,36 +410,35 @@ fn tell_apart(number: u64, n: u64, place: u64) {
 }
 
 // What was found of a kind so far.
-#[derive(Clone, Copy)]
+#[derive(Clone, Copy, Default)]
 struct Found {
     accepted: u64,
     alike: u64,
     met: Met,
 }
 
+// The first few that do not end alike are told.
 fn compared_with(
     found: Found,
     chip: Chip,
     body: &[u8; 311],
     kind: u8,
-    ram: &[u8],
-    rom: &[u8],
-    colour: &[u8],
+    memories: Memories<'_>,
     x: u64,
     number: u64,
 ) -> Found {
     let n = 1 + x / 4096 % 3;
     let bank = low(x / 256 % 4);
-    let place = apart(chip, kind, ram, rom, colour, bank, n);
-    let alike = place == 311;
-    if !alike & (std::num::wrapping_add_u64(found.alike, 5) > found.accepted) {
-        tell_apart(number, n, place);
+    let place = apart(chip, kind, memories, bank, n);
+    if let Some(place) = place
+        && found.alike.wrapping_add(5) > found.accepted
+    {
+        tell_apart(number, n, place as u64);
     }
-    let met = found.met;
     Found {
         accepted: more(found.accepted, true),
-        alike: more(found.alike, alike),
-        met: tally(met, body, kind),
+        alike: more(found.alike, place.is_none()),
+        met: tally(found.met, body, kind),
     }
 }
 
@@ -516,42 +446,33 @@ fn one(
     found: Found,
     body: &[u8; 311],
     kind: u8,
-    ram: &[u8],
-    rom: &[u8],
-    colour: &[u8],
+    memories: Memories<'_>,
     x: u64,
     number: u64,
 ) -> Found {
-    let decoded = scene::decode_newest(body);
-    let chip = decoded.chip;
-    let taken = decoded.scene & chip::is_accepted(chip);
-    if !taken {
+    let Some(chip) = scene::decode_newest(body) else {
+        return found;
+    };
+    if !chip::is_accepted(chip) {
         return found;
     }
-    compared_with(found, chip, body, kind, ram, rom, colour, x, number)
+    compared_with(found, chip, body, kind, memories, x, number)
 }
 
-fn kind_of(kind: u8, ram: &[u8], rom: &[u8], colour: &[u8], seed: u64) {
+fn kind_of(kind: u8, memories: Memories<'_>, seed: u64) {
     let mut x = seed;
-    let mut found = Found {
-        accepted: 0,
-        alike: 0,
-        met: nothing(),
-    };
-    let mut i = 0u64;
-    while i < STATES {
+    let mut found = Found::default();
+    for i in 0..STATES {
         let mut body = [0u8; 311];
         x = made(&mut body, kind, x);
-        found = one(found, &body, kind, ram, rom, colour, x, i);
-        i = i + 1;
+        found = one(found, &body, kind, memories, x, i);
     }
     say(b"states ", STATES);
     say(b", accepted ", found.accepted);
     say(b", alike ", found.alike);
     io::write_all(STDOUT_FILENO, b"\n");
-    let met = found.met;
-    tell_corners(met);
-    tell_others(met);
+    tell_corners(found.met);
+    tell_others(found.met);
 }
 
 fn main() {
@@ -561,8 +482,13 @@ fn main() {
     let a = fill(&mut ram, 88172645463325252);
     let b = fill(&mut rom, a);
     let c = fill(&mut colour, b);
+    let memories = Memories {
+        ram: &ram,
+        rom: &rom,
+        colour: &colour,
+    };
     io::write_all(STDOUT_FILENO, b"6569\n");
-    kind_of(schedule::KIND_6569, &ram, &rom, &colour, c);
+    kind_of(schedule::KIND_6569, memories, c);
     io::write_all(STDOUT_FILENO, b"6567R8\n");
-    kind_of(schedule::KIND_6567R8, &ram, &rom, &colour, c);
+    kind_of(schedule::KIND_6567R8, memories, c);
 }

@@ -1,17 +1,17 @@
 // What the chip reads in a cycle: the matrix, the graphics, the sprites' slots, and what an access leaves behind.
-// The picture's arrays are lent; every step takes any number, so that a state's bounds need not travel.
+// The picture's arrays are lent, and say their lengths; every step takes any number, so that a state's bounds need not travel.
 #![tactic(auto)]
 
-ghost use Rattle.std.specs.Prelude.{◌≡◌, Bool, true, false, cond, not, ◌&&◌, ◌||◌, [], ◌<◌, length, ℤ};
+ghost use Rattle.std.specs.Prelude.{◌≡◌, true, false, [], ◌+◌, ◌*◌, ◌<◌, get_or, set};
 ghost use Rattle.laws.specs.Clock.{InRange};
-ghost use Rattle.memory.specs.Memory.{Lent};
 ghost use Rattle.access.specs.Reads.{told};
 ghost use Rattle.access.specs.Machinery.Noted.{read_for, reads_of, noted_of, reads_in};
 ghost use Rattle.access.specs.Matrix.{matrix_entry, fill_spot, filled, late_word};
 ghost use Rattle.access.specs.Merge.{since_of, previous_of, carry_of, mix_of, latch_of, merged_at, merged, latched};
-ghost use Rattle.access.specs.Graphics.{ecm_masked, text_address, bitmap_address, plain_address, bmm_fell, ecm_fell, graphics_address, idle_address, access_address};
-ghost use Rattle.access.specs.Slots.{pointer_address, byte_address, byte_read, or_open, pointer_spots, data_spots, pointers_after, two_stored, byte_two_after, byte_one, byte_zero, data_after, word_of, words_after};
+ghost use Rattle.access.specs.Graphics.{ecm, bmm, mcm, ecm_masked, text_address, bitmap_address, plain_address, bmm_fell, ecm_fell, graphics_address, idle_address, access_address};
+ghost use Rattle.access.specs.Slots.{byte_address, byte_read, or_open, pointer_spots, data_spots, pointers_after, two_stored, byte_two_after, data_after, word_of, words_after};
 
+use memory::{Host, Memory};
 use schedule::Reasons;
 
 // The character that a graphics access uses, and the bits that a merge carries on.
@@ -49,58 +49,65 @@ pub struct Spots {
     pub second: u16,
 }
 
+// What the sprites' slots fetched: the pointers, three bytes a sprite, and the words that are put together of them.
+#[derive(Clone, Copy)]
+pub struct Slots {
+    pub pointers: [u8; 8],
+    pub bytes: [u8; 24],
+    pub words: [u32; 8],
+}
+
+// Where there is no read.
+const SILENT: Read = Read {
+    reason: 0,
+    address: 0,
+};
+
+#[tactic(auto, unfolding(crate::specs::Reads::told))]
 pub fn no_reads() -> Reads
     ensures { result ≡ told [] }
 {
-    let none = Read {
-        reason: 0,
-        address: 0,
-    };
     Reads {
-        first: none,
-        second: none,
+        first: SILENT,
+        second: SILENT,
     }
 }
 
 // A read for a reason.
+#[tactic(auto, unfolding(crate::specs::Machinery::Noted::read_for))]
 fn read_for(reason: u8, address: u16) -> Read
     ensures { result ≡ read_for reason address }
 {
     if reason == 0 {
-        return Read {
-            reason: 0,
-            address: 0,
-        };
+        return SILENT;
     }
-    Read {
-        reason: reason,
-        address: address,
-    }
+    Read { reason, address }
 }
 
 // A tick's reads: the timing side has the reasons, the picture side the addresses.
+#[tactic(auto, unfolding(crate::specs::Machinery::Noted::reads_of))]
 fn reads_for(reasons: Reasons, spots: Spots) -> Reads
     ensures { result ≡ reads_of reasons spots }
 {
-    let first = read_for(reasons.first, spots.first);
-    let second = read_for(reasons.second, spots.second);
     Reads {
-        first: first,
-        second: second,
+        first: read_for(reasons.first, spots.first),
+        second: read_for(reasons.second, spots.second),
     }
 }
 
 // Two of them in one number: a run of ticks hands on one, and not four.
+#[tactic(auto, unfolding(crate::specs::Machinery::Noted::noted_of))]
 pub fn noted(reasons: Reasons, spots: Spots) -> u64
     ensures { result ≡ noted_of reasons spots }
 {
-    reasons.first as u64 * 65536
-        + spots.first as u64
-        + reasons.second as u64 * 281474976710656
-        + spots.second as u64 * 4294967296
+    u64::from(reasons.first) * 65536
+        + u64::from(spots.first)
+        + u64::from(reasons.second) * 281474976710656
+        + u64::from(spots.second) * 4294967296
 }
 
 // The reads that such a number holds.
+#[tactic(auto, unfolding(crate::specs::Machinery::Noted::reads_in))]
 pub fn reads_in(noted: u64) -> Reads
     ensures { result ≡ reads_in noted }
 {
@@ -118,41 +125,27 @@ pub fn reads_in(noted: u64) -> Reads
 // ---- the matrix
 
 // A character access: the screen code below, the colour nibble above, and where the code was read.
-pub fn matrix_entry(ram: &[u8], rom: &[u8], colour: &[u8], bank: u8, ptrs: u8, vc: u16) -> Entry
-    requires fact_1 { Lent ram.now rom.now }
-    requires fact_2 { length colour.now ≡ 1024 }
-    ensures { result ≡ matrix_entry ram.now rom.now colour.now bank ptrs vc }
+#[tactic(auto, unfolding(crate::specs::Matrix::matrix_entry))]
+pub fn matrix_entry(host: &Host<'_>, ptrs: u8, vc: u16) -> Entry
+    ensures { result ≡ matrix_entry host.now.memory.ram.now host.now.memory.rom.now host.now.colour.now host.now.memory.bank ptrs vc }
 {
-    let found = memory::read(ram, rom, bank, laws::wide(ptrs / 16) * 1024 + vc % 1024);
-    let at = (vc % 1024) as usize;
-    let word = laws::wide(colour[at] % 16) * 256 + laws::wide(found.byte);
+    let found = memory::read(&host.memory, u16::from(ptrs / 16) * 1024 + vc % 1024);
+    let at = usize::from(vc % 1024);
     Entry {
-        word: word,
+        word: u16::from(host.colour[at] % 16) * 256 + u16::from(found.byte),
         address: found.address,
     }
 }
 
 // The matrix line after a cycle in which a character access may fill a place, and the address of that access.
-pub fn fill(
-    matrix: &mut [u16],
-    go: bool,
-    vmli: u8,
-    vc: u16,
-    ptrs: u8,
-    ram: &[u8],
-    rom: &[u8],
-    colour: &[u8],
-    bank: u8,
-) -> u16
-    requires fact_1 { length matrix.old ≡ 40 }
-    requires fact_2 { Lent ram.now rom.now }
-    requires fact_3 { length colour.now ≡ 1024 }
-    ensures fact_1 { result ≡ fill_spot go vc ptrs ram.now rom.now bank }
-    ensures fact_2 { matrix.new ≡ filled matrix.old go vmli vc ptrs ram.now rom.now colour.now bank }
+#[tactic(auto, using(rows::proofs::Laws::place_small), unfolding(crate::specs::Matrix::fill_spot, crate::specs::Matrix::filled, crate::specs::Matrix::matrix_entry))]
+pub fn fill(matrix: &mut [u16; 40], go: bool, vmli: u8, vc: u16, ptrs: u8, host: &Host<'_>) -> u16
+    ensures spots { result ≡ fill_spot go vc ptrs host.now.memory.ram.now host.now.memory.rom.now host.now.memory.bank }
+    ensures matrix { matrix.new ≡ filled matrix.old go vmli vc ptrs host.now.memory.ram.now host.now.memory.rom.now host.now.colour.now host.now.memory.bank }
 {
     if go {
-        let at = rows::place(vmli) as usize;
-        let entry = matrix_entry(ram, rom, colour, bank, ptrs, vc);
+        let at = usize::from(rows::place(vmli));
+        let entry = matrix_entry(host, ptrs, vc);
         matrix[at] = entry.word;
         return entry.address;
     }
@@ -160,15 +153,17 @@ pub fn fill(
 }
 
 // What the CPU's byte leaves in a pending place.
+#[tactic(auto, unfolding(crate::specs::Matrix::late_word))]
 pub fn late_word(byte: u8) -> u16
     ensures { result ≡ late_word byte }
 {
-    laws::wide(byte % 16) * 256 + 255
+    u16::from(byte % 16) * 256 + 255
 }
 
 // ---- the character latch and the forced merge
 
 // Cycles since a forced bad line, from 0 to 40.
+#[tactic(auto, using(crate::proofs::Signs::between_fits, crate::proofs::Signs::elapsed_fits, crate::proofs::Signs::below_40_fits, crate::proofs::Signs::before, crate::proofs::Signs::soon, crate::proofs::Signs::late))]
 pub fn since(clock: i64, forced: i64) -> u8
     requires { InRange clock × InRange forced }
     ensures { result ≡ since_of clock forced }
@@ -184,6 +179,7 @@ pub fn since(clock: i64, forced: i64) -> u8
 }
 
 // The place whose bits leak into a merge.
+#[tactic(auto, unfolding(crate::specs::Merge::previous_of))]
 pub fn previous_place(f: u8, v: u8) -> u8
     ensures { result ≡ previous_of f v }
 {
@@ -199,6 +195,7 @@ pub fn previous_place(f: u8, v: u8) -> u8
     rows::place(f - 1)
 }
 
+#[tactic(auto, unfolding(crate::specs::Merge::carry_of))]
 pub fn carry_of(cycle: u16, old: u16, previous: u16) -> u16
     ensures { result ≡ carry_of cycle old previous }
 {
@@ -208,6 +205,7 @@ pub fn carry_of(cycle: u16, old: u16, previous: u16) -> u16
     0x08A6 & (old | previous)
 }
 
+#[tactic(auto, unfolding(crate::specs::Merge::mix_of))]
 pub fn mix(carry: u16, current: u16, next: u16) -> u16
     ensures { result ≡ mix_of carry current next }
 {
@@ -215,14 +213,14 @@ pub fn mix(carry: u16, current: u16, next: u16) -> u16
 }
 
 // The merge, f cycles after the forced bad line: all three entries are read before the two stores.
-pub fn merge_at(matrix: &mut [u16], cycle: u16, f: u8, vmli: u8, old: u16) -> Latch
-    requires { length matrix.old ≡ 40 }
-    ensures fact_1 { result ≡ latch_of (merged_at matrix.old cycle f vmli old) }
-    ensures fact_2 { matrix.new ≡ (merged_at matrix.old cycle f vmli old).matrix }
+#[tactic(auto, using(rows::proofs::Laws::place_small, crate::proofs::Laws::previous_small), unfolding(crate::specs::Merge::merged_at))]
+pub fn merge_at(matrix: &mut [u16; 40], cycle: u16, f: u8, vmli: u8, old: u16) -> Latch
+    ensures latch { result ≡ latch_of (merged_at matrix.old cycle f vmli old) }
+    ensures matrix { matrix.new ≡ (merged_at matrix.old cycle f vmli old).matrix }
 {
-    let previous = previous_place(f, vmli) as usize;
-    let current = rows::place(vmli) as usize;
-    let next = rows::place(f) as usize;
+    let previous = usize::from(previous_place(f, vmli));
+    let current = usize::from(rows::place(vmli));
+    let next = usize::from(rows::place(f));
     let pd = matrix[previous];
     let cd = matrix[current];
     let nd = matrix[next];
@@ -230,20 +228,17 @@ pub fn merge_at(matrix: &mut [u16], cycle: u16, f: u8, vmli: u8, old: u16) -> La
     let mixed = mix(carry, cd, nd);
     matrix[current] = mixed;
     matrix[next] = mixed;
-    Latch {
-        ch: mixed,
-        carry: carry,
-    }
+    Latch { ch: mixed, carry }
 }
 
 // Without a bad line in row 0: a merge within forty cycles of a forced one, the plain entry later.
-pub fn merge(matrix: &mut [u16], cycle: u16, f: u8, vmli: u8, old: u16) -> Latch
-    requires { length matrix.old ≡ 40 }
-    ensures fact_1 { result ≡ latch_of (merged matrix.old cycle f vmli old) }
-    ensures fact_2 { matrix.new ≡ (merged matrix.old cycle f vmli old).matrix }
+#[tactic(auto, using(rows::proofs::Laws::place_small), unfolding(crate::specs::Merge::merged))]
+pub fn merge(matrix: &mut [u16; 40], cycle: u16, f: u8, vmli: u8, old: u16) -> Latch
+    ensures latch { result ≡ latch_of (merged matrix.old cycle f vmli old) }
+    ensures matrix { matrix.new ≡ (merged matrix.old cycle f vmli old).matrix }
 {
     if 40 <= f {
-        let current = rows::place(vmli) as usize;
+        let current = usize::from(rows::place(vmli));
         return Latch {
             ch: matrix[current],
             carry: old,
@@ -253,46 +248,59 @@ pub fn merge(matrix: &mut [u16], cycle: u16, f: u8, vmli: u8, old: u16) -> Latch
 }
 
 // The character latch: kept while hidden, cleared by an idle access, else the matrix line's entry or a merge.
+#[tactic(auto, using(rows::proofs::Laws::place_small), unfolding(crate::specs::Merge::latched))]
 pub fn latched_char(
-    matrix: &mut [u16],
+    matrix: &mut [u16; 40],
     moves: bool,
     hidden: bool,
     plain: bool,
     cycle: u16,
     f: u8,
     vmli: u8,
-    ch: u16,
-    carry: u16,
+    latch: Latch,
 ) -> Latch
-    requires { length matrix.old ≡ 40 }
-    ensures fact_1 { result ≡ latch_of (latched matrix.old moves hidden plain cycle f vmli ch carry) }
-    ensures fact_2 { matrix.new ≡ (latched matrix.old moves hidden plain cycle f vmli ch carry).matrix }
+    ensures latch { result ≡ latch_of (latched matrix.old moves hidden plain cycle f vmli latch.ch latch.carry) }
+    ensures matrix { matrix.new ≡ (latched matrix.old moves hidden plain cycle f vmli latch.ch latch.carry).matrix }
 {
     if hidden {
-        return Latch {
-            ch: ch,
-            carry: carry,
-        };
+        return latch;
     }
     if !moves {
-        return Latch {
-            ch: 0,
-            carry: carry,
-        };
+        return Latch { ch: 0, ..latch };
     }
     if plain {
-        let at = rows::place(vmli) as usize;
+        let at = usize::from(rows::place(vmli));
         return Latch {
             ch: matrix[at],
-            carry: carry,
+            ..latch
         };
     }
-    merge(matrix, cycle, f, vmli, carry)
+    merge(matrix, cycle, f, vmli, latch.carry)
 }
 
 // ---- graphics addresses
 
+// The bits of a mode number.
+fn has_ecm(mode: u8) -> bool
+    ensures { result ≡ ecm mode }
+{
+    mode / 4 % 2 == 1
+}
+
+fn has_bmm(mode: u8) -> bool
+    ensures { result ≡ bmm mode }
+{
+    mode / 2 % 2 == 1
+}
+
+fn has_mcm(mode: u8) -> bool
+    ensures { result ≡ mcm mode }
+{
+    mode % 2 == 1
+}
+
 // ECM holds address bits 9 and 10 at 0.
+#[tactic(auto, unfolding(crate::specs::Graphics::ecm_masked))]
 pub fn ecm_masked(ecm: bool, address: u16) -> u16
     ensures { result ≡ ecm_masked ecm address }
 {
@@ -302,29 +310,33 @@ pub fn ecm_masked(ecm: bool, address: u16) -> u16
     address
 }
 
+#[tactic(auto, unfolding(crate::specs::Graphics::text_address))]
 pub fn text_address(ptrs: u8, ch: u16, rc: u8) -> u16
     ensures { result ≡ text_address ptrs ch rc }
 {
-    laws::wide(ptrs / 2 % 8) * 2048 + ch % 256 * 8 + laws::wide(rc)
+    u16::from(ptrs / 2 % 8) * 2048 + ch % 256 * 8 + u16::from(rc)
 }
 
+#[tactic(auto, unfolding(crate::specs::Graphics::bitmap_address))]
 pub fn bitmap_address(ptrs: u8, vc: u16, rc: u8) -> u16
     ensures { result ≡ bitmap_address ptrs vc rc }
 {
-    laws::wide(ptrs / 8 % 2) * 8192 + vc % 1024 * 8 + laws::wide(rc)
+    u16::from(ptrs / 8 % 2) * 8192 + vc % 1024 * 8 + u16::from(rc)
 }
 
+#[tactic(auto, unfolding(crate::specs::Graphics::plain_address))]
 pub fn plain_address(mode: u8, ptrs: u8, ch: u16, vc: u16, rc: u8) -> u16
     ensures { result ≡ plain_address mode ptrs ch vc rc }
 {
-    let ecm = mode / 4 % 2 == 1;
-    if mode / 2 % 2 == 1 {
+    let ecm = has_ecm(mode);
+    if has_bmm(mode) {
         return ecm_masked(ecm, bitmap_address(ptrs, vc, rc));
     }
     ecm_masked(ecm, text_address(ptrs, ch, rc))
 }
 
 // The first access after BMM fell: the bitmap counter is still on the address.
+#[tactic(auto, unfolding(crate::specs::Graphics::bmm_fell))]
 pub fn bmm_fell(fell: bool, ptrs: u8, vc: u16, rc: u8, bank: u8, address: u16) -> u16
     ensures { result ≡ bmm_fell fell ptrs vc rc bank address }
 {
@@ -339,6 +351,7 @@ pub fn bmm_fell(fell: bool, ptrs: u8, vc: u16, rc: u8, bank: u8, address: u16) -
 }
 
 // The first access after ECM fell: its mask is still on the address.
+#[tactic(auto, unfolding(crate::specs::Graphics::ecm_fell))]
 pub fn ecm_fell(fell: bool, bitmap: bool, bank: u8, address: u16) -> u16
     ensures { result ≡ ecm_fell fell bitmap bank address }
 {
@@ -346,32 +359,34 @@ pub fn ecm_fell(fell: bool, bitmap: bool, bank: u8, address: u16) -> u16
     ecm_masked(masked, address)
 }
 
+#[tactic(auto, unfolding(crate::specs::Graphics::graphics_address, crate::specs::Graphics::ecm_fell, crate::specs::Graphics::bmm_fell, crate::specs::Graphics::ecm_masked))]
 pub fn graphics_address(mode: u8, old: u8, ptrs: u8, ch: u16, vc: u16, rc: u8, bank: u8) -> u16
     ensures { result ≡ graphics_address mode old ptrs ch vc rc bank }
 {
-    let bmm = mode / 2 % 2 == 1;
-    let was_bmm = old / 2 % 2 == 1;
-    let ecm = mode / 4 % 2 == 1;
-    let was_ecm = old / 4 % 2 == 1;
-    let mcm = mode % 2 == 1;
     let plain = plain_address(mode, ptrs, ch, vc, rc);
     if mode == old {
         return plain;
     }
+    let bmm = has_bmm(mode);
+    let was_bmm = has_bmm(old);
     let after_bmm = bmm_fell(was_bmm & !bmm, ptrs, vc, rc, bank, plain);
-    ecm_fell(was_ecm & !ecm, bmm & (!was_bmm | mcm), bank, after_bmm)
+    let left_ecm = has_ecm(old) & !has_ecm(mode);
+    let into_bitmap = bmm & (!was_bmm | has_mcm(mode));
+    ecm_fell(left_ecm, into_bitmap, bank, after_bmm)
 }
 
+#[tactic(auto, unfolding(crate::specs::Graphics::idle_address))]
 pub fn idle_address(old: u8, forced: bool) -> u16
     ensures { result ≡ idle_address old forced }
 {
     if forced {
         return 0x38FF;
     }
-    ecm_masked(old / 4 % 2 == 1, 0x3FFF)
+    ecm_masked(has_ecm(old), 0x3FFF)
 }
 
 // The address of a graphics access, in display or in idle state.
+#[tactic(auto, unfolding(crate::specs::Graphics::access_address))]
 pub fn access_address(
     moves: bool,
     forced: bool,
@@ -393,16 +408,18 @@ pub fn access_address(
 
 // ---- the sprites' slots
 
+#[tactic(auto, unfolding(crate::specs::Slots::byte_address))]
 pub fn byte_address(on: bool, pointer: u8, mc: u8) -> u16
     ensures { result ≡ byte_address on pointer mc }
 {
     if on {
-        return laws::wide(pointer) * 64 + laws::wide(mc % 64);
+        return u16::from(pointer) * 64 + u16::from(mc % 64);
     }
     0x3FFF
 }
 
 // A byte that was read, or the open bus.
+#[tactic(auto, unfolding(crate::specs::Slots::or_open))]
 pub fn or_open(seen: bool, byte: u8) -> u8
     ensures { result ≡ or_open seen byte }
 {
@@ -411,134 +428,122 @@ pub fn or_open(seen: bool, byte: u8) -> u8
 
 // Byte 2 of a sprite with DMA, and where it was read. `first` is sprite 0's, which needs the bus.
 fn byte_two_on(
-    bytes: &mut [u8],
+    bytes: &mut [u8; 24],
     k: usize,
     first: bool,
     pointer: u8,
     mc: u8,
     low: bool,
-    ram: &[u8],
-    rom: &[u8],
-    bank: u8,
+    m: &Memory<'_>,
 ) -> u16
-    requires fact_1 { length bytes.old ≡ 24 }
-    requires fact_2 { k < 8 }
-    requires fact_3 { Lent ram.now rom.now }
-    ensures fact_1 { result ≡ (byte_read true pointer mc ram.now rom.now bank).address }
-    ensures fact_2 { bytes.new ≡ two_stored bytes.old k first true low (byte_read true pointer mc ram.now rom.now bank) }
+    requires { k < 8 }
+    ensures spots { result ≡ (byte_read true pointer mc m.now.ram.now m.now.rom.now m.now.bank).address }
+    ensures bytes { bytes.new ≡ two_stored bytes.old k first true low (byte_read true pointer mc m.now.ram.now m.now.rom.now m.now.bank) }
 {
-    let data = memory::read(ram, rom, bank, byte_address(true, pointer, mc));
+    let data = memory::read(m, byte_address(true, pointer, mc));
     bytes[k * 3 + 2] = or_open(!first | low, data.byte);
     data.address
 }
 
 // Of one without: its address is the idle one, whatever its pointer and MC are.
-fn byte_two_off(bytes: &mut [u8], k: usize, low: bool, ram: &[u8], rom: &[u8], bank: u8) -> u16
-    requires fact_1 { length bytes.old ≡ 24 }
-    requires fact_2 { k < 8 }
-    requires fact_3 { Lent ram.now rom.now }
-    ensures fact_1 { result ≡ (byte_read false 0 0 ram.now rom.now bank).address }
-    ensures fact_2 { bytes.new ≡ two_stored bytes.old k false false low (byte_read false 0 0 ram.now rom.now bank) }
+#[tactic(auto, unfolding(crate::specs::Slots::byte_address))]
+fn byte_two_off(bytes: &mut [u8; 24], k: usize, low: bool, m: &Memory<'_>) -> u16
+    requires { k < 8 }
+    ensures spots { result ≡ (byte_read false 0 0 m.now.ram.now m.now.rom.now m.now.bank).address }
+    ensures bytes { bytes.new ≡ two_stored bytes.old k false false low (byte_read false 0 0 m.now.ram.now m.now.rom.now m.now.bank) }
 {
-    let data = memory::read(ram, rom, bank, 0x3FFF);
+    let data = memory::read(m, 0x3FFF);
     bytes[k * 3 + 2] = or_open(low, data.byte);
     data.address
 }
 
 // The two stand apart, so that each is compiled for its own address.
+#[tactic(auto, unfolding(crate::specs::Slots::byte_address))]
 fn byte_two(
-    bytes: &mut [u8],
+    bytes: &mut [u8; 24],
     k: usize,
     first: bool,
     on: bool,
     pointer: u8,
     mc: u8,
     low: bool,
-    ram: &[u8],
-    rom: &[u8],
-    bank: u8,
+    m: &Memory<'_>,
 ) -> u16
-    requires fact_1 { length bytes.old ≡ 24 }
-    requires fact_2 { k < 8 }
-    requires fact_3 { Lent ram.now rom.now }
-    ensures fact_1 { result ≡ (byte_read on pointer mc ram.now rom.now bank).address }
-    ensures fact_2 { bytes.new ≡ two_stored bytes.old k first on low (byte_read on pointer mc ram.now rom.now bank) }
+    requires { k < 8 }
+    ensures spots { result ≡ (byte_read on pointer mc m.now.ram.now m.now.rom.now m.now.bank).address }
+    ensures bytes { bytes.new ≡ two_stored bytes.old k first on low (byte_read on pointer mc m.now.ram.now m.now.rom.now m.now.bank) }
 {
     if on {
-        return byte_two_on(bytes, k, first, pointer, mc, low, ram, rom, bank);
+        return byte_two_on(bytes, k, first, pointer, mc, low, m);
     }
-    byte_two_off(bytes, k, low, ram, rom, bank)
+    byte_two_off(bytes, k, low, m)
 }
 
 // A pointer slot: the pointer, then byte 2.
+#[tactic(auto, unfolding(crate::specs::Slots::pointer_spots, crate::specs::Slots::pointers_after, crate::specs::Slots::byte_two_after))]
 pub fn pointer_slot(
-    pointers: &mut [u8],
-    bytes: &mut [u8],
+    pointers: &mut [u8; 8],
+    bytes: &mut [u8; 24],
     k: usize,
     first: bool,
     on: bool,
     mc: u8,
     low: bool,
     ptrs: u8,
-    ram: &[u8],
-    rom: &[u8],
-    bank: u8,
+    m: &Memory<'_>,
 ) -> Spots
-    requires fact_1 { (length pointers.old ≡ 8) × (length bytes.old ≡ 24) }
-    requires fact_2 { k < 8 }
-    requires fact_3 { Lent ram.now rom.now }
-    ensures fact_1 { result ≡ pointer_spots k on mc ptrs ram.now rom.now bank }
-    ensures fact_2 { pointers.new ≡ pointers_after pointers.old k ptrs ram.now rom.now bank }
-    ensures fact_3 { bytes.new ≡ byte_two_after bytes.old k first on mc low ptrs ram.now rom.now bank }
+    requires { k < 8 }
+    ensures spots { result ≡ pointer_spots k on mc ptrs m.now.ram.now m.now.rom.now m.now.bank }
+    ensures pointers { pointers.new ≡ pointers_after pointers.old k ptrs m.now.ram.now m.now.rom.now m.now.bank }
+    ensures bytes { bytes.new ≡ byte_two_after bytes.old k first on mc low ptrs m.now.ram.now m.now.rom.now m.now.bank }
 {
-    let found = memory::read(
-        ram,
-        rom,
-        bank,
-        laws::wide(ptrs / 16) * 1024 + 1016 + k as u16,
-    );
+    let found = memory::read(m, u16::from(ptrs / 16) * 1024 + 1016 + k as u16);
     pointers[k] = found.byte;
-    let second = byte_two(bytes, k, first, on, found.byte, mc, low, ram, rom, bank);
+    let second = byte_two(bytes, k, first, on, found.byte, mc, low, m);
     Spots {
         first: found.address,
-        second: second,
+        second,
     }
 }
 
+#[tactic(auto, unfolding(crate::specs::Slots::word_of))]
 pub fn word_of(two: u8, one: u8, zero: u8) -> u32
     ensures { result ≡ word_of two one zero }
 {
-    (two as u32) * 65536 + (one as u32) * 256 + (zero as u32)
+    u32::from(two) * 65536 + u32::from(one) * 256 + u32::from(zero)
+}
+
+// Bytes 1 and 0 in their places, and the word put together with byte 2.
+fn store_data(bytes: &mut [u8; 24], words: &mut [u32; 8], k: usize, one: u8, zero: u8)
+    requires { k < 8 }
+    ensures bytes { bytes.new ≡ set (set bytes.old (k * 3) zero) (k * 3 + 1) one }
+    ensures words { words.new ≡ set words.old k (word_of (get_or bytes.old (k * 3 + 2) 0) one zero) }
+{
+    let at = k * 3;
+    words[k] = word_of(bytes[at + 2], one, zero);
+    bytes[at] = zero;
+    bytes[at + 1] = one;
 }
 
 // The data of a sprite with DMA: byte 1, byte 0, and the word put together.
+#[tactic(auto, unfolding(crate::specs::Slots::or_open, crate::specs::Slots::data_spots, crate::specs::Slots::byte_one, crate::specs::Slots::byte_zero, crate::specs::Slots::data_after, crate::specs::Slots::words_after))]
 fn data_on(
-    pointers: &[u8],
-    bytes: &mut [u8],
-    words: &mut [u32],
+    pointers: &[u8; 8],
+    bytes: &mut [u8; 24],
+    words: &mut [u32; 8],
     k: usize,
     mc: u8,
-    ram: &[u8],
-    rom: &[u8],
-    bank: u8,
+    m: &Memory<'_>,
 ) -> Spots
-    requires fact_1 { (length pointers.now ≡ 8) × (length bytes.old ≡ 24) × (length words.old ≡ 8) }
-    requires fact_2 { k < 8 }
-    requires fact_3 { Lent ram.now rom.now }
-    ensures fact_1 { result ≡ data_spots pointers.now k true mc ram.now rom.now bank }
-    ensures fact_2 { bytes.new ≡ data_after pointers.now bytes.old k true mc false ram.now rom.now bank }
-    ensures fact_3 { words.new ≡ words_after pointers.now bytes.old words.old k true mc false ram.now rom.now bank }
+    requires { k < 8 }
+    ensures spots { result ≡ data_spots pointers.now k true mc m.now.ram.now m.now.rom.now m.now.bank }
+    ensures bytes { bytes.new ≡ data_after pointers.now bytes.old k true mc false m.now.ram.now m.now.rom.now m.now.bank }
+    ensures words { words.new ≡ words_after pointers.now bytes.old words.old k true mc false m.now.ram.now m.now.rom.now m.now.bank }
 {
     let pointer = pointers[k];
-    let first = memory::read(ram, rom, bank, byte_address(true, pointer, mc));
-    let second = memory::read(ram, rom, bank, byte_address(true, pointer, mc % 64 + 1));
-    let one = first.byte;
-    let zero = second.byte;
-    let at = k * 3;
-    let two = bytes[at + 2];
-    bytes[at] = zero;
-    bytes[at + 1] = one;
-    words[k] = word_of(two, one, zero);
+    let first = memory::read(m, byte_address(true, pointer, mc));
+    let second = memory::read(m, byte_address(true, pointer, mc % 64 + 1));
+    store_data(bytes, words, k, first.byte, second.byte);
     Spots {
         first: first.address,
         second: second.address,
@@ -546,30 +551,22 @@ fn data_on(
 }
 
 // Of one without, which reads at the idle address: byte 1 whatever AEC is.
+#[tactic(auto, unfolding(crate::specs::Slots::byte_address, crate::specs::Slots::data_spots, crate::specs::Slots::byte_one, crate::specs::Slots::byte_zero, crate::specs::Slots::data_after, crate::specs::Slots::words_after))]
 fn data_off(
-    bytes: &mut [u8],
-    words: &mut [u32],
+    bytes: &mut [u8; 24],
+    words: &mut [u32; 8],
     k: usize,
     low: bool,
-    ram: &[u8],
-    rom: &[u8],
-    bank: u8,
+    m: &Memory<'_>,
 ) -> Spots
-    requires fact_1 { (length bytes.old ≡ 24) × (length words.old ≡ 8) }
-    requires fact_2 { k < 8 }
-    requires fact_3 { Lent ram.now rom.now }
-    ensures fact_1 { result ≡ data_spots [] k false 0 ram.now rom.now bank }
-    ensures fact_2 { bytes.new ≡ data_after [] bytes.old k false 0 low ram.now rom.now bank }
-    ensures fact_3 { words.new ≡ words_after [] bytes.old words.old k false 0 low ram.now rom.now bank }
+    requires { k < 8 }
+    ensures spots { result ≡ data_spots [] k false 0 m.now.ram.now m.now.rom.now m.now.bank }
+    ensures bytes { bytes.new ≡ data_after [] bytes.old k false 0 low m.now.ram.now m.now.rom.now m.now.bank }
+    ensures words { words.new ≡ words_after [] bytes.old words.old k false 0 low m.now.ram.now m.now.rom.now m.now.bank }
 {
-    let data = memory::read(ram, rom, bank, 0x3FFF);
-    let one = data.byte;
+    let data = memory::read(m, 0x3FFF);
     let zero = or_open(low, data.byte);
-    let at = k * 3;
-    let two = bytes[at + 2];
-    bytes[at] = zero;
-    bytes[at + 1] = one;
-    words[k] = word_of(two, one, zero);
+    store_data(bytes, words, k, data.byte, zero);
     Spots {
         first: data.address,
         second: data.address,
@@ -577,27 +574,24 @@ fn data_off(
 }
 
 // A data slot. Byte 1 is read with and without DMA.
+#[tactic(auto, unfolding(crate::specs::Slots::byte_zero, crate::specs::Slots::data_after, crate::specs::Slots::words_after, crate::specs::Slots::byte_address, crate::specs::Slots::data_spots, crate::specs::Slots::byte_one))]
 pub fn data_slot(
-    pointers: &[u8],
-    bytes: &mut [u8],
-    words: &mut [u32],
+    pointers: &[u8; 8],
+    bytes: &mut [u8; 24],
+    words: &mut [u32; 8],
     k: usize,
     on: bool,
     mc: u8,
     low: bool,
-    ram: &[u8],
-    rom: &[u8],
-    bank: u8,
+    m: &Memory<'_>,
 ) -> Spots
-    requires fact_1 { (length pointers.now ≡ 8) × (length bytes.old ≡ 24) × (length words.old ≡ 8) }
-    requires fact_2 { k < 8 }
-    requires fact_3 { Lent ram.now rom.now }
-    ensures fact_1 { result ≡ data_spots pointers.now k on mc ram.now rom.now bank }
-    ensures fact_2 { bytes.new ≡ data_after pointers.now bytes.old k on mc low ram.now rom.now bank }
-    ensures fact_3 { words.new ≡ words_after pointers.now bytes.old words.old k on mc low ram.now rom.now bank }
+    requires { k < 8 }
+    ensures spots { result ≡ data_spots pointers.now k on mc m.now.ram.now m.now.rom.now m.now.bank }
+    ensures bytes { bytes.new ≡ data_after pointers.now bytes.old k on mc low m.now.ram.now m.now.rom.now m.now.bank }
+    ensures words { words.new ≡ words_after pointers.now bytes.old words.old k on mc low m.now.ram.now m.now.rom.now m.now.bank }
 {
     if on {
-        return data_on(pointers, bytes, words, k, mc, ram, rom, bank);
+        return data_on(pointers, bytes, words, k, mc, m);
     }
-    data_off(bytes, words, k, low, ram, rom, bank)
+    data_off(bytes, words, k, low, m)
 }

@@ -14,8 +14,7 @@ use Rattle.registers.specs.Control.{timed}
 use Rattle.timing.specs.Beam.{next_cycle}
 use Rattle.raster.specs.Frame.{swept}
 use Rattle.sprites.specs.Sprites.{all_fresh}
-use Rattle.rows.specs.declared.Pending.{Pending}
-use Rattle.rows.specs.declared.Pending.TheVariants.{Nothing, At}
+use Rattle.std.specs.Prelude.{Option, None, Some}
 use Rattle.access.specs.Slots.{or_open, byte_one, byte_zero}
 use Rattle.side.specs.declared.Side.{Side}
 use Rattle.side.specs.Phases.{phased}
@@ -62,9 +61,9 @@ ticks_agrees h (suc n) c =
     let before = ticks_from h n c in
     same_way held (eqb before.refused 0) (ticked h before.chip) before (ap (ticked_was h before.chip) (ticks_agrees h n c) ∙ ticked_agrees h before.chip) (ticks_agrees h n c)
 
-late_stays : (c : Chip) (byte : ℕ) (p : Pending) → own c ≡ own (late_at c byte p)
-late_stays c byte Nothing = refl
-late_stays c byte (At p) = refl
+late_stays : (c : Chip) (byte : ℕ) (p : Option ℕ) → own c ≡ own (late_at c byte p)
+late_stays c byte None = refl
+late_stays c byte (Some p) = refl
 
 write_agrees : (c : Chip) (b : Bool) (addr v : ℕ) → cond b (expand_was c v (own c)) (own c) ≡ own (cond b (expand_at c v) (file_written c addr v))
 unfolding expand_at file_written

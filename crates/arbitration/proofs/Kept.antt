@@ -1,14 +1,14 @@
 -- The AEC counter, the clock and the lost cycles keep their bounds, and which field of the bus a step changes. Assumes nothing.
 use Prim.Native.Nat.{ℕ, zero, suc, ◌+◌, ◌*◌, ◌≤◌}
 use mathlib.Core.Path.{◌≡◌, refl, sym, ap}
-use mathlib.Core.Bool.{Bool, true, false, not, cond}
+use mathlib.Core.Bool.{Bool, true, false, not}
 use native.Mathlib.Omega.{arith}
 use lib.Bits.{and_zero_r}
 use lib.IntN.{ℤ, pos, negsuc}
 use Rattle.laws.specs.Clock.{InRange, CanTick}
 use Rattle.laws.proofs.Choice.{either, or_false}
 use Rattle.arbitration.specs.declared.Bus.{Bus}
-use Rattle.arbitration.specs.Set.{clock≔, aec≔, balow≔, aeclow≔, lost≔}
+use Rattle.arbitration.specs.Set.{clock≔, aec≔, balow≔, aeclow≔}
 use Rattle.arbitration.specs.Bus.{down, Counted, aec_after, low, arbitrated, lost_after, counted, clock_on, clocked, fresh, sprite_asks, requested}
 use Rattle.arbitration.proofs.Counting.{at_most_one}
 

@@ -1,7 +1,7 @@
 // Who has the bus: the request, BA, the AEC counter, the clocks of BA's edges, and the cycles that the CPU has lost on a line.
 #![tactic(auto)]
 
-ghost use Rattle.std.specs.Prelude.{◌≡◌, Bool, cond, ◌<◌, ℤ};
+ghost use Rattle.std.specs.Prelude.{◌≡◌, Bool, cond, ◌<◌};
 ghost use Rattle.laws.specs.Clock.{InRange};
 ghost use Rattle.schedule.specs.Kind.{kind_of};
 ghost use Rattle.arbitration.specs.Bus.{fresh, clock_on, clocked, sprite_asks, requested, aec_after, low, arbitrated, lost_after, counted, phi1_mask, phi1_high};
@@ -27,6 +27,7 @@ pub fn clock_on(clock: i64, k: u8) -> i64
 }
 
 // Whether a sprite with DMA is among those that the schedule has in a cycle.
+#[tactic(auto, unfolding(crate::specs::Bus::sprite_asks))]
 pub fn sprite_asks(dma: u8, mask: u8) -> bool
     ensures { result ≡ sprite_asks dma mask }
 {
@@ -34,6 +35,7 @@ pub fn sprite_asks(dma: u8, mask: u8) -> bool
 }
 
 // The bus is asked for by the matrix, whose BA output is low then, or by a sprite.
+#[tactic(auto, unfolding(crate::specs::Bus::requested))]
 pub fn request(ba: bool, dma: u8, mask: u8) -> bool
     ensures { result ≡ requested ba dma mask }
 {
@@ -41,12 +43,14 @@ pub fn request(ba: bool, dma: u8, mask: u8) -> bool
 }
 
 // One less, and -1 stays.
+#[tactic(auto, unfolding(crate::specs::Bus::aec_after))]
 fn aec_down(aec: i8) -> i8
     ensures { result ≡ aec_after aec Bool.true }
 {
     if aec < 0 { aec } else { aec - 1 }
 }
 
+#[tactic(auto, unfolding(crate::specs::Bus::aec_after))]
 pub fn aec_after(aec: i8, asked: bool) -> i8
     ensures { result ≡ aec_after aec asked }
 {
@@ -66,19 +70,13 @@ pub fn edge_clock(here: bool, clock: i64, old: i64) -> i64
     if here { clock } else { old }
 }
 
-// What a tick adds to the cycles lost.
-fn one_where(taken: bool) -> u64
-    ensures { result ≡ cond taken 1 0 }
-{
-    if taken { 1 } else { 0 }
-}
-
 // A line's lost cycles after a tick: none before it where the line begins, and one more where AEC is low.
+#[tactic(auto, unfolding(crate::specs::Bus::lost_after))]
 fn lost_after(begins: bool, taken: bool, lost: u64) -> u64
     requires { lost < 256 }
     ensures { result ≡ lost_after begins taken lost }
 {
-    let one = one_where(taken);
+    let one = u64::from(taken);
     if begins {
         return one;
     }
@@ -86,6 +84,7 @@ fn lost_after(begins: bool, taken: bool, lost: u64) -> u64
 }
 
 // The mask that counts in the first clock phase: DMA that starts in this cycle is not in it yet.
+#[tactic(auto, unfolding(crate::specs::Bus::phi1_mask))]
 pub fn phi1_mask(kind: u8, dma: u8, previous: u8, cycle: u16) -> u8
     ensures { result ≡ phi1_mask (kind_of kind) dma previous cycle }
 {
@@ -93,6 +92,7 @@ pub fn phi1_mask(kind: u8, dma: u8, previous: u8, cycle: u16) -> u8
     if starting { previous } else { dma }
 }
 
+#[tactic(auto, unfolding(crate::specs::Bus::phi1_high))]
 pub fn ba_high_at_phi1(kind: u8, ba: bool, dma: u8, previous: u8, cycle: u16) -> bool
     ensures { result ≡ phi1_high (kind_of kind) ba dma previous cycle }
 {
@@ -102,6 +102,7 @@ pub fn ba_high_at_phi1(kind: u8, ba: bool, dma: u8, previous: u8, cycle: u16) ->
 }
 
 impl Bus {
+    #[tactic(auto, unfolding(crate::specs::Bus::fresh))]
     pub fn new() -> Self
         ensures { result ≡ fresh }
     {
@@ -117,55 +118,42 @@ impl Bus {
     }
 
     // The same bus, k cycles later.
+    #[tactic(auto, unfolding(crate::specs::Bus::clocked))]
     pub fn clocked(self, k: u8) -> Self
         requires { InRange self.clock }
         ensures { result ≡ clocked k self }
     {
-        let clock = clock_on(self.clock, k);
         Bus {
-            clock: clock,
-            fall: self.fall,
-            rise: self.rise,
-            aec: self.aec,
-            balow: self.balow,
-            aeclow: self.aeclow,
-            lost: self.lost,
+            clock: clock_on(self.clock, k),
+            ..self
         }
     }
 
     // One cycle's arbitration at the present clock.
+    #[tactic(auto, unfolding(crate::specs::Bus::arbitrated))]
     pub fn arbitrate(self, asked: bool) -> Self
         ensures { result ≡ arbitrated self asked }
     {
         let aec = aec_after(self.aec, asked);
-        let aeclow = is_low(aec);
-        let fall = edge_clock(asked & !self.balow, self.clock, self.fall);
-        let rise = edge_clock(!asked & self.balow, self.clock, self.rise);
         Bus {
-            clock: self.clock,
-            fall: fall,
-            rise: rise,
-            aec: aec,
+            fall: edge_clock(asked & !self.balow, self.clock, self.fall),
+            rise: edge_clock(!asked & self.balow, self.clock, self.rise),
+            aec,
             balow: asked,
-            aeclow: aeclow,
-            lost: self.lost,
+            aeclow: is_low(aec),
+            ..self
         }
     }
 
     // The tick counted, after its arbitration.
+    #[tactic(auto, unfolding(crate::specs::Bus::counted))]
     pub fn count(self, begins: bool) -> Self
         requires { self.lost < 256 }
         ensures { result ≡ counted begins self }
     {
-        let lost = lost_after(begins, self.aeclow, self.lost);
         Bus {
-            clock: self.clock,
-            fall: self.fall,
-            rise: self.rise,
-            aec: self.aec,
-            balow: self.balow,
-            aeclow: self.aeclow,
-            lost: lost,
+            lost: lost_after(begins, self.aeclow, self.lost),
+            ..self
         }
     }
 }

@@ -20,7 +20,7 @@ use Rattle.border.specs.Border as Borders
 use Rattle.sprites.specs.Sprites as Sprites
 use Rattle.sprites.specs.Fine.{fine_test}
 use Rattle.arbitration.specs.Bus as Buses
-use Rattle.rows.specs.declared.Pending.TheVariants.{Nothing}
+use Rattle.std.specs.Prelude.{None}
 use Rattle.rows.specs.Pending.{waits}
 use Rattle.side.specs.declared.Side.{Side}
 use Rattle.raster.specs.Frame as Frames
@@ -52,7 +52,7 @@ chip_made kind forced cycle raster =
         sprites = Sprites.all_fresh;
         bus = Buses.fresh;
         rows = Rows.fresh;
-        pending = waits Nothing;
+        pending = waits None;
         changed = false;
         refresh = 0xFF;
       };

@@ -10,13 +10,11 @@
 //   6  register read: address ab, light pen bytes c and d                 the byte
 #![tactic(auto)]
 
-ghost use Rattle.std.specs.Prelude.{◌≡◌, length};
-
 use chip::Chip;
 use streams::{STDIN_FILENO, STDOUT_FILENO};
 
 fn word(low: u8, high: u8) -> u16 {
-    low as u16 + high as u16 * 256
+    u16::from_le_bytes([low, high])
 }
 
 // A scene to the output; false where that fails.
@@ -38,17 +36,17 @@ fn masks(cycle: u16, kind: u8) -> bool {
 // A row for each of the two, by YSCROLL.
 fn bad_lines(raster: u16, latch: u8) -> bool {
     let mut told = [0u8; 512];
-    for y in 0..256usize {
-        let yscroll = (y % 256) as u8;
-        told[y] = timing::bad_line(raster, yscroll, latch != 0) as u8;
-        told[y + 256] = frontend::nickelplait_bad_line(raster, yscroll, latch);
+    for yscroll in 0..=255u8 {
+        let at = usize::from(yscroll);
+        told[at] = timing::bad_line(raster, yscroll, latch != 0) as u8;
+        told[256 + at] = frontend::nickelplait_bad_line(raster, yscroll, latch);
     }
     io::write_all(STDOUT_FILENO, &told)
 }
 
 // A number as a byte; all above 254 are 255.
 fn small(n: usize) -> u8 {
-    if n < 255 { n as u8 } else { 255 }
+    u8::try_from(n).unwrap_or(255)
 }
 
 fn counts(dma: u8) -> bool {
@@ -63,23 +61,18 @@ fn shown<'a>(ram: &'a [u8], rom: &'a [u8], pointer: u8, bank: u8) -> bool {
     let refused = memory::block_refusal(ram, rom, pointer, bank);
     let bytes = memory::block(ram, rom, pointer, bank);
     let head = [refused, small(bytes.len())];
-    if !io::write_all(STDOUT_FILENO, &head) {
-        return false;
-    }
-    io::write_all(STDOUT_FILENO, bytes)
+    io::write_all(STDOUT_FILENO, &head) && io::write_all(STDOUT_FILENO, bytes)
 }
 
 // ROM begins where RAM ends, so a RAM that is too long reaches into it; false for lengths that the memories do not have.
-fn block(memories: &[u8], pointer: u8, bank: u8, n: usize, m: usize) -> bool
-    requires { length memories.now ≡ 21504 }
-{
-    if 21504 < n {
+fn block(memories: &[u8; 21504], pointer: u8, bank: u8, n: u16, m: u16) -> bool {
+    let Some(ram) = memories.get(..usize::from(n)) else {
         return false;
-    }
-    if 5120 < m {
+    };
+    let Some(rom) = memories[16384..].get(..usize::from(m)) else {
         return false;
-    }
-    shown(&memories[0..n], &memories[16384..16384 + m], pointer, bank)
+    };
+    shown(ram, rom, pointer, bank)
 }
 
 fn register(chip: Chip, address: u16, x: u8, y: u8) -> bool {
@@ -87,87 +80,52 @@ fn register(chip: Chip, address: u16, x: u8, y: u8) -> bool {
     io::write_all(STDOUT_FILENO, &byte)
 }
 
-// A question of kind 0 to 4; false where the run ends.
-fn plain(head: [u8; 7], memories: &[u8]) -> bool
-    requires { length memories.now ≡ 21504 }
-{
-    if head[0] == 0 {
-        return show(chip::power_up(head[1]));
-    }
-    if head[0] == 1 {
-        return masks(word(head[1], head[2]), head[3]);
-    }
-    if head[0] == 2 {
-        return bad_lines(word(head[1], head[2]), head[3]);
-    }
-    if head[0] == 3 {
-        return counts(head[1]);
-    }
-    block(
-        memories,
-        head[1],
-        head[2],
-        word(head[3], head[4]) as usize,
-        word(head[5], head[6]) as usize,
-    )
-}
-
-// A question of kind 5 or 6, about a scene; false where the run ends.
-fn about(head: [u8; 7]) -> bool {
+// A question about the scene that follows it, of kind 5 or 6; false where the run ends, as at any other kind.
+fn about(kind: u8, address: u16, a: u8, b: u8) -> bool {
     let mut body = [0u8; 311];
     let n = io::read_full(STDIN_FILENO, &mut body);
     if n != 311 {
         return false;
     }
-    let decoded = scene::decode_newest(&body);
-    let scene = decoded.scene;
-    if !scene {
+    let Some(chip) = scene::decode_newest(&body) else {
         return false;
+    };
+    match kind {
+        5 => show(calls::write_register(chip, address, a)),
+        6 => register(chip, address, a, b),
+        _ => false,
     }
-    let chip = decoded.chip;
-    let address = word(head[1], head[2]);
-    if head[0] == 5 {
-        return show(calls::write_register(chip, address, head[3]));
-    }
-    if head[0] == 6 {
-        return register(chip, address, head[3], head[4]);
-    }
-    false
 }
 
 // One question from the input to the output; false where the run ends.
-fn one(memories: &[u8]) -> bool
-    requires { length memories.now ≡ 21504 }
-{
+fn one(memories: &[u8; 21504]) -> bool {
     let mut head = [0u8; 7];
-    let n = io::read_full(STDIN_FILENO, &mut head);
-    if n != 7 {
+    let read = io::read_full(STDIN_FILENO, &mut head);
+    if read != 7 {
         return false;
     }
-    if head[0] < 5 {
-        return plain(head, memories);
-    }
-    about(head)
-}
-
-// A loop has to end, and nothing says that an input does: the turns count down from a number that no run uses up.
-fn all(memories: &[u8])
-    requires { length memories.now ≡ 21504 }
-{
-    let mut turns = u64::MAX;
-    while turns > 0 && one(memories) {
-        turns -= 1;
+    let [kind, a, b, c, d, e, f] = head;
+    match kind {
+        0 => show(chip::power_up(a)),
+        1 => masks(word(a, b), c),
+        2 => bad_lines(word(a, b), c),
+        3 => counts(a),
+        4 => block(memories, a, b, word(c, d), word(e, f)),
+        _ => about(kind, word(a, b), c, d),
     }
 }
 
-fn space() -> [u8; 21504]
-    ensures { 21504 ≡ length result }
-{
-    [0; 21504]
+// A loop has to end, and nothing says that an input does: the turns are more than any run uses up.
+fn all(memories: &[u8; 21504]) {
+    for _ in 0..u64::MAX {
+        if !one(memories) {
+            return;
+        }
+    }
 }
 
 fn main() {
-    let mut memories = space();
+    let mut memories = [0u8; 21504];
     let n = io::read_full(STDIN_FILENO, &mut memories);
     if n == 21504 {
         all(&memories);

@@ -1,7 +1,7 @@
 // The border unit: the main and the vertical flip-flop, and the lines at which the vertical one changes.
 #![tactic(auto)]
 
-ghost use Rattle.std.specs.Prelude.{◌≡◌, true, false, not};
+ghost use Rattle.std.specs.Prelude.{◌≡◌};
 ghost use Rattle.border.specs.Border.{fresh, compared, switched, line_begun, line_ended, opened, left_passed, left_part, left40_passed, left38_passed, right38_passed, right40_passed, remembered};
 
 #[derive(Clone, Copy)]
@@ -21,6 +21,7 @@ pub struct Border {
 }
 
 // Before in bit 0, after in bit 1.
+#[tactic(auto, unfolding(crate::specs::Border::left_part))]
 fn part(before: bool, after: bool) -> u8
     ensures { result ≡ left_part before after }
 {
@@ -43,6 +44,7 @@ impl Border {
         }
     }
 
+    #[tactic(auto, unfolding(crate::specs::Border::compared))]
     pub fn compares(mut self, rsel: bool) -> Self
         ensures { result ≡ compared self rsel }
     {
@@ -56,6 +58,7 @@ impl Border {
         self
     }
 
+    #[tactic(auto, unfolding(crate::specs::Border::switched))]
     fn turn(mut self, hit: bool, on: bool) -> Self
         ensures { result ≡ switched self hit on }
     {
@@ -66,6 +69,7 @@ impl Border {
         self
     }
 
+    #[tactic(auto, unfolding(crate::specs::Border::line_begun))]
     pub fn begin_line(self, raster: u16, den: bool) -> Self
         ensures { result ≡ line_begun self raster den }
     {
@@ -74,6 +78,7 @@ impl Border {
         self.turn(top, false).turn(bottom, true)
     }
 
+    #[tactic(auto, unfolding(crate::specs::Border::switched, crate::specs::Border::line_ended))]
     pub fn line_end(self, raster: u16, den: bool) -> Self
         ensures { result ≡ line_ended self raster den }
     {
@@ -82,6 +87,7 @@ impl Border {
         self.turn(bottom | top, bottom)
     }
 
+    #[tactic(auto, unfolding(crate::specs::Border::opened))]
     fn open(mut self) -> Self
         ensures { result ≡ opened self }
     {
@@ -89,6 +95,7 @@ impl Border {
         self
     }
 
+    #[tactic(auto, unfolding(crate::specs::Border::left_passed))]
     fn pass_left(self, reached: bool, raster: u16, den: bool) -> Self
         ensures { result ≡ left_passed self reached raster den }
     {
@@ -99,6 +106,7 @@ impl Border {
         }
     }
 
+    #[tactic(auto, unfolding(crate::specs::Border::left40_passed))]
     pub fn left40(self, csel: bool, raster: u16, den: bool) -> Self
         ensures { result ≡ left40_passed self csel raster den }
     {
@@ -107,6 +115,7 @@ impl Border {
         b
     }
 
+    #[tactic(auto, unfolding(crate::specs::Border::left38_passed))]
     pub fn left38(self, csel: bool, raster: u16, den: bool) -> Self
         ensures { result ≡ left38_passed self csel raster den }
     {
@@ -115,6 +124,7 @@ impl Border {
         b
     }
 
+    #[tactic(auto, unfolding(crate::specs::Border::right38_passed))]
     pub fn right38(mut self, csel: bool) -> Self
         ensures { result ≡ right38_passed self csel }
     {
@@ -122,6 +132,7 @@ impl Border {
         self
     }
 
+    #[tactic(auto, unfolding(crate::specs::Border::right40_passed))]
     pub fn right40(mut self, csel: bool) -> Self
         ensures { result ≡ right40_passed self csel }
     {

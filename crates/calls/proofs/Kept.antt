@@ -8,8 +8,7 @@ use Rattle.laws.proofs.Choice.{either, by_test}
 use Rattle.registers.proofs.Kept.{compare_kept, line_small}
 use Rattle.schedule.specs.Kind.{kind_of}
 use Rattle.sprites.proofs.Kept.{fine_expand}
-use Rattle.rows.specs.declared.Pending.{Pending}
-use Rattle.rows.specs.declared.Pending.TheVariants.{Nothing, At}
+use Rattle.std.specs.Prelude.{Option, None, Some}
 use Rattle.side.proofs.Kept.{side_same}
 use Rattle.chip.specs.declared.Chip.{Chip}
 use Rattle.chip.specs.declared.Answer.{Answer}
@@ -77,11 +76,11 @@ module _ (c : Chip) where
       by_test (λ (a : Answer). accepted a.chip ≡ true) (ltb 511 compare) (λ t. e)
       (λ t. fine_accepted _ (record { side = f.side; compare = ltb-false 511 compare t; forced = f.forced }))
 
-  late_at_kept : (byte : ℕ) (p : Pending) → accepted c ≡ true → accepted (late_at c byte p) ≡ true
-  late_at_kept byte Nothing e = e
-  late_at_kept byte (At p) e =
+  late_at_kept : (byte : ℕ) (p : Option ℕ) → accepted c ≡ true → accepted (late_at c byte p) ≡ true
+  late_at_kept byte None e = e
+  late_at_kept byte (Some p) e =
       let f = accepted_fine c e in
-      fine_accepted (late_at c byte (At p)) (record {
+      fine_accepted (late_at c byte (Some p)) (record {
         side = side_same refl refl refl refl refl refl f.side.sprites tt f.side;
         compare = f.compare;
         forced = f.forced;

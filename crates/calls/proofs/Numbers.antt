@@ -1,17 +1,15 @@
 -- 02 (iv): a late byte is refused 12 exactly where the kind is unknown, with nothing pending too. Assumes nothing.
 use Prim.Native.Nat.{ℕ}
 use mathlib.Core.Path.{◌≡◌, refl, sym, ◌∙◌}
-use mathlib.Core.Bool.{Bool, true, false, cond}
-use native.Mathlib.Omega.{arith}
+use mathlib.Core.Bool.{Bool, true, false}
 use lib.Dec.{eqb}
 use borrow.Author.Tests.{eqb-true}
 use Rattle.schedule.specs.Kind.{known}
 use Rattle.chip.specs.declared.Chip.{Chip}
-use Rattle.chip.specs.declared.Answer.{Answer}
 use Rattle.chip.specs.Chip.{answer}
 use Rattle.chip.specs.Accept.{state_refusal}
 use Rattle.chip.proofs.Fine.{unknown_12, only_unknown_12}
-use Rattle.calls.specs.Calls.{late_at, late_taken}
+use Rattle.calls.specs.Calls.{late_taken}
 
 module _ (c : Chip) (byte : ℕ) where
   by_zero : (z : Bool) → eqb (state_refusal c) 0 ≡ z → (late_taken c byte).refused ≡ state_refusal c

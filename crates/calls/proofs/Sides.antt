@@ -11,8 +11,7 @@ use Rattle.registers.proofs.Timing.{takes, shows, written_my, written_enable, wr
 use Rattle.raster.specs.Frame as Raster
 use Rattle.border.specs.Border.{compared}
 use Rattle.sprites.specs.Sprites.{expand_written}
-use Rattle.rows.specs.declared.Pending.{Pending}
-use Rattle.rows.specs.declared.Pending.TheVariants.{Nothing, At}
+use Rattle.std.specs.Prelude.{Option, None, Some}
 use Rattle.rows.specs.Pending.{waits}
 use Rattle.side.specs.declared.Side.{Side}
 use Rattle.side.specs.Set.{irq≔, frame≔, border≔, sprites≔, pending≔}
@@ -112,9 +111,9 @@ module _ {a b : Chip} (e : Level a b) where
       picked LevelAnswers (ltb 511 line) (record { refused = refl; chip = e })
       (record { refused = refl; chip = record { side = e.side; registers = simp (den, rsel, yscroll, csel, file.my, file.enable, file.yexp) } })
 
-  late_at_lem : (v w : ℕ) (p : Pending) → Level (late_at a v p) (late_at b w p)
-  late_at_lem v w Nothing = e
-  late_at_lem v w (At p) = record { side = ap (pending≔ (waits Nothing)) e.side; registers = e.registers }
+  late_at_lem : (v w : ℕ) (p : Option ℕ) → Level (late_at a v p) (late_at b w p)
+  late_at_lem v w None = e
+  late_at_lem v w (Some p) = record { side = ap (pending≔ (waits None)) e.side; registers = e.registers }
 
   pub late_level : (v w : ℕ) → accepted a ≡ true → accepted b ≡ true → LevelAnswers (late_taken a v) (late_taken b w)
   unfolding late_taken
@@ -122,7 +121,7 @@ module _ {a b : Chip} (e : Level a b) where
       rw (accepted_taken a f, accepted_taken b g)
       (record {
         refused = refl;
-        chip = subst (λ (p : Pending). Level (late_at a v a.side.pending.place) (late_at b w p)) (ap (λ (s : Side). s.pending.place) e.side) (late_at_lem v w a.side.pending.place);
+        chip = subst (λ (p : Option ℕ). Level (late_at a v a.side.pending.place) (late_at b w p)) (ap (λ (s : Side). s.pending.place) e.side) (late_at_lem v w a.side.pending.place);
       })
 
   -- the questions

@@ -1,5 +1,5 @@
 -- Every other public call on a chip.
-use Rattle.std.specs.Prelude.{ℕ, ◌%◌, Bool, not, ◌||◌, cond, eqb, ltb, set}
+use Rattle.std.specs.Prelude.{ℕ, ◌%◌, Bool, not, ◌||◌, cond, eqb, ltb, set, Option, None, Some}
 use Rattle.registers.specs.declared.Registers.{Registers}
 use Rattle.registers.specs.Control.{RSEL, mode_number}
 use Rattle.registers.specs.Registers.{written, controlled, control1_stored, control2_stored, expanded}
@@ -11,8 +11,6 @@ use Rattle.raster.specs.Frame as Raster
 use Rattle.border.specs.Border.{compared}
 use Rattle.sprites.specs.Sprites.{expand_written}
 use Rattle.arbitration.specs.Bus.{phi1_high}
-use Rattle.rows.specs.declared.Pending.{Pending}
-use Rattle.rows.specs.declared.Pending.TheVariants.{Nothing, At}
 use Rattle.rows.specs.Pending.{waits}
 use Rattle.access.specs.Matrix.{late_word}
 use Rattle.side.specs.Set.{irq≔, frame≔, border≔, sprites≔, pending≔}
@@ -76,10 +74,10 @@ controls_placed c ctrl1 ctrl2 compare =
     cond (ltb 511 compare) (answer 5 c) (answer 0 (regs≔ (controlled c.regs ctrl1 ctrl2 compare) c))
 
 -- 01, Late byte: it fills a place only if one is pending, and the place is pending no more
-abbrev pub late_at : Chip → ℕ → Pending → Chip
-late_at c byte Nothing = c
-late_at c byte (At p) =
-    side≔ (pending≔ (waits Nothing) c.side) (picture≔ (matrix≔ (set c.picture.matrix p (late_word byte)) c.picture) c)
+abbrev pub late_at : Chip → ℕ → Option ℕ → Chip
+late_at c byte None = c
+late_at c byte (Some p) =
+    side≔ (pending≔ (waits None) c.side) (picture≔ (matrix≔ (set c.picture.matrix p (late_word byte)) c.picture) c)
 
 -- 01, Numbers; 02 (iv): refused for its state as a tick is
 unfoldable pub late_taken : Chip → ℕ → Answer

@@ -39,10 +39,7 @@ fn flush(out: &[u8], at: usize) -> bool
 fn read_on(out: &[u8], at: usize) -> bool
     requires { at ≤ length out.now }
 {
-    if at <= 65000 {
-        return true;
-    }
-    flush(out, at)
+    at <= 65000 || flush(out, at)
 }
 
 // Where a line goes: behind the others, or first in a buffer that was written out.
@@ -56,8 +53,8 @@ fn with_room(at: usize) -> usize
 }
 
 // The next block, or the end of the file.
-fn more(reader: Reader, at: usize, block: &mut [u8], room: &[u8], pool: &mut [u8]) -> Work
-    requires { (65536 ≡ length block.old) × (at ≤ 65000) }
+fn more(reader: Reader, at: usize, block: &mut [u8; 65536], room: &[u8], pool: &mut [u8]) -> Work
+    requires { at ≤ 65000 }
     ensures { (result.len ≤ 65536) × (result.at ≤ 65536) }
 {
     let len = io::read_full(STDIN_FILENO, &mut *block);
@@ -72,20 +69,24 @@ fn said(
     told: Told,
     len: usize,
     at: usize,
-    block: &mut [u8],
+    block: &mut [u8; 65536],
     room: &[u8],
     pool: &mut [u8],
-    out: &mut [u8],
+    out: &mut [u8; 65536],
 ) -> Work
-    requires { (65536 ≡ length block.old) × (65536 ≡ length out.old) × (len ≤ 65536) × (at ≤ 65000) }
+    requires { (len ≤ 65536) × (at ≤ 65000) }
     ensures { (result.len ≤ 65536) × (result.at ≤ 65536) }
 {
     let reader = told.reader;
-    let record = told.tick;
-    let what = told.said;
-    match what {
+    match told.said {
         Said::Signals(n) => working(reader, len, told.at, printout::signals(out, at, n), true),
-        Said::Tick => working(reader, len, told.at, printout::tick(out, at, record), true),
+        Said::Tick => working(
+            reader,
+            len,
+            told.at,
+            printout::tick(out, at, told.tick),
+            true,
+        ),
         Said::More => more(reader, at, block, room, pool),
         Said::End => working(reader, len, told.at, at, false),
         Said::Refused(number, place) => working(
@@ -98,31 +99,40 @@ fn said(
     }
 }
 
-fn turn(w: Work, block: &mut [u8], room: &mut [u8], pool: &mut [u8], out: &mut [u8]) -> Work
-    requires { (65536 ≡ length block.old) × (65536 ≡ length out.old) × (w.len ≤ 65536) × (w.at ≤ 65536) }
+fn turn(
+    w: Work,
+    block: &mut [u8; 65536],
+    room: &mut [u8],
+    pool: &mut [u8],
+    out: &mut [u8; 65536],
+) -> Work
+    requires { (w.len ≤ 65536) × (w.at ≤ 65536) }
     ensures { (result.len ≤ 65536) × (result.at ≤ 65536) }
 {
-    let len = w.len;
-    let reader = w.reader;
     if !read_on(out, w.at) {
-        return working(reader, len, w.from, 0, false);
+        return Work {
+            at: 0,
+            going: false,
+            ..w
+        };
     }
     let at = with_room(w.at);
-    let told = intake::next(reader, &block[..len], w.from, room, pool);
-    said(told, len, at, block, room, pool, out)
+    let told = intake::next(w.reader, &block[..w.len], w.from, room, pool);
+    said(told, w.len, at, block, room, pool, out)
 }
 
-// A loop has to end, and nothing says that an input does: the turns count down from a number that no run uses up.
+// A loop has to end, and nothing says that an input does: the turns are more than any run uses up.
 fn main() {
     let mut block = io::large_buffer();
     let mut room = io::buffer();
     let mut pool = io::large_buffer();
     let mut out = io::large_buffer();
     let mut w = working(intake::start(), 0, 0, 0, true);
-    let mut turns = u64::MAX;
-    while (turns > 0) & w.going {
+    for _ in 0..u64::MAX {
+        if !w.going {
+            break;
+        }
         w = turn(w, &mut block, &mut room, &mut pool, &mut out);
-        turns -= 1;
     }
     flush(&out, w.at);
 }

@@ -6,8 +6,7 @@ use borrow.Author.Tests.{eqb-true, leb-true, ltb-true, eq-eqb, le-leb, lt-ltb}
 use Rattle.laws.specs.Clock.{last_clock, InRange}
 use Rattle.laws.proofs.Choice.{and_false}
 use Rattle.arbitration.specs.Bus.{Counted}
-use Rattle.rows.specs.declared.Pending.{Pending}
-use Rattle.rows.specs.declared.Pending.TheVariants.{Nothing, At}
+use Rattle.std.specs.Prelude.{ℕ, Option, None, Some}
 use Rattle.rows.specs.Pending.{Pends}
 use Rattle.chip.specs.declared.Chip.{Chip}
 use Rattle.chip.specs.Accept.{aec_fine, clock_fine, place_fine, accepted}
@@ -32,15 +31,15 @@ unfolding aec_fine
 counted_aec_fine (pos n) h = le-leb n 3 h
 counted_aec_fine (negsuc n) h = eq-eqb n 0 h
 
-pub place_fine_pends : (p : Pending) → place_fine p ≡ true → Pends p
+pub place_fine_pends : (p : Option ℕ) → place_fine p ≡ true → Pends p
 unfolding place_fine
-place_fine_pends Nothing e = tt
-place_fine_pends (At p) e = ltb-true p 40 e
+place_fine_pends None e = tt
+place_fine_pends (Some p) e = ltb-true p 40 e
 
-pub pends_place_fine : (p : Pending) → Pends p → place_fine p ≡ true
+pub pends_place_fine : (p : Option ℕ) → Pends p → place_fine p ≡ true
 unfolding place_fine
-pends_place_fine Nothing h = refl
-pends_place_fine (At p) h = lt-ltb p 40 h
+pends_place_fine None h = refl
+pends_place_fine (Some p) h = lt-ltb p 40 h
 
 -- a test that fails fails the whole
 pub unless : (t b : Bool) → (t ≡ false → b ≡ false) → b ≡ true → t ≡ true

@@ -1,11 +1,9 @@
 -- 01, States we accept; 02 (iv): the kind sets the limits of cycle and raster line, and an unknown one is never accepted; 02 (xi): a line has lost no more cycles than it had.
-use Rattle.std.specs.Prelude.{ℕ, Bool, true, false, ◌&&◌, cond, ℤ, pos, negsuc, eqb, leb, ltb}
+use Rattle.std.specs.Prelude.{ℕ, Bool, true, false, ◌&&◌, cond, ℤ, pos, negsuc, eqb, leb, ltb, Option, None, Some}
 use Rattle.laws.specs.Clock.{last_clock}
 use Rattle.schedule.specs.Kind.{known, kind_of, last_cycle, last_line}
 use Rattle.sprites.specs.Fine.{fine_test}
 use Rattle.rows.specs.Fine.{vmli_limit}
-use Rattle.rows.specs.declared.Pending.{Pending}
-use Rattle.rows.specs.declared.Pending.TheVariants.{Nothing, At}
 use Rattle.chip.specs.declared.Chip.{Chip}
 
 -- AEC counter −1..3
@@ -19,9 +17,9 @@ clock_fine (pos n) = leb n last_clock
 clock_fine (negsuc n) = false
 
 -- `Pends` as a test
-unfoldable pub place_fine : Pending → Bool
-place_fine Nothing = true
-place_fine (At p) = ltb p 40
+unfoldable pub place_fine : Option ℕ → Bool
+place_fine None = true
+place_fine (Some p) = ltb p 40
 
 unfoldable pub accepted : Chip → Bool
 accepted c =

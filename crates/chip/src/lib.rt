@@ -1,15 +1,14 @@
 // What a chip is: its parts, its state at power-up, and which states are accepted.
 #![tactic(auto)]
 
-ghost use Rattle.std.specs.Prelude.{◌≡◌, Bool, ℤ};
+ghost use Rattle.std.specs.Prelude.{◌≡◌};
 ghost use Rattle.rows.specs.Fine.{vmli_limit};
-ghost use Rattle.chip.specs.Chip.{powered};
+ghost use Rattle.chip.specs.Chip.{answer, powered};
 ghost use Rattle.chip.specs.Accept.{aec_fine, clock_fine, place_fine, accepted, state_refusal};
 
 use access::Reads;
 use picture::Pen;
 use registers::Registers;
-use rows::Pending;
 use side::Side;
 
 #[derive(Clone, Copy)]
@@ -36,117 +35,108 @@ pub struct Answer {
     pub reads: Reads,
 }
 
+// What a call answers that has read nothing.
+pub fn answered(refused: u8, chip: Chip) -> Answer
+    ensures { result ≡ answer refused chip }
+{
+    Answer {
+        refused,
+        chip,
+        reads: access::no_reads(),
+    }
+}
+
 // A kind that is not known is kept, for the tick to refuse.
+#[tactic(auto, unfolding(crate::specs::Chip::powered))]
 pub fn power_up(kind: u8) -> Chip
     ensures { result ≡ powered kind }
 {
-    let regs = Registers::new();
-    let side = Side::new(kind);
-    let pen = Pen::new();
-    let picture = Picture {
-        pen: pen,
-        matrix: [0u16; 40],
-        pointers: [0u8; 8],
-        bytes: [0u8; 24],
-        words: [0u32; 8],
-    };
     Chip {
-        regs: regs,
-        side: side,
-        picture: picture,
+        regs: Registers::new(),
+        side: Side::new(kind),
+        picture: Picture {
+            pen: Pen::new(),
+            matrix: [0; 40],
+            pointers: [0; 8],
+            bytes: [0; 24],
+            words: [0; 8],
+        },
     }
 }
 
 // ---- acceptance
 
+// The last clock of a state we accept, 2 ^ 62.
+const LAST_CLOCK: i64 = 4611686018427387904;
+
+#[tactic(auto, using(crate::proofs::Parts::is_counted))]
 fn aec_fine(aec: i8) -> bool
     ensures { result ≡ aec_fine aec }
 {
     (-1 <= aec) & (aec <= 3)
 }
 
+#[tactic(auto, using(crate::proofs::Parts::is_clock))]
 pub fn clock_fine(clock: i64) -> bool
     ensures { result ≡ clock_fine clock }
 {
-    (0 <= clock) & (clock <= 4611686018427387904)
+    (0 <= clock) & (clock <= LAST_CLOCK)
 }
 
-fn place_fine(p: Pending) -> bool
+#[tactic(auto, unfolding(crate::specs::Accept::place_fine))]
+fn place_fine(p: Option<u8>) -> bool
     ensures { result ≡ place_fine p }
 {
     match p {
-        Pending::Nothing => true,
-        Pending::At(place) => place < 40,
+        None => true,
+        Some(place) => place < 40,
     }
 }
 
 // VMLI as an ordinary bad line has it after a cycle.
+#[tactic(auto, using(rows::proofs::Laws::whole, rows::proofs::Laws::behind))]
 fn vmli_limit(cycle: u16) -> u16
     ensures { result ≡ vmli_limit cycle }
 {
-    let counts = schedule::vmli_counts(cycle);
-    if !counts {
+    if !schedule::vmli_counts(cycle) {
         return 40;
     }
-    if cycle < schedule::FIRST_CHARACTER {
-        return 0;
-    }
-    cycle - schedule::FIRST_CHARACTER
+    cycle.saturating_sub(schedule::FIRST_CHARACTER)
 }
 
 // Whether a tick takes this state.
+#[tactic(auto, unfolding(crate::specs::Accept::accepted))]
 pub fn is_accepted(chip: Chip) -> bool
     ensures { result ≡ accepted chip }
 {
-    let regs = chip.regs;
     let side = chip.side;
-    let picture = chip.picture;
-    let beam = side.beam;
-    let rows = side.rows;
-    let bus = side.bus;
-    let sprites = side.sprites;
-    let pending = side.pending;
-    let place = pending.place;
-    let pen = picture.pen;
-    let counted = aec_fine(bus.aec);
-    let clocked = clock_fine(bus.clock);
-    let forced = clock_fine(pen.forced);
-    let placed = place_fine(place);
-    let eight = sprites.fine();
-    let limit = vmli_limit(beam.cycle);
-    let vmli = laws::wide(rows.vmli);
-    let known = schedule::is_known(beam.kind);
-    let last = schedule::last_cycle(beam.kind);
-    let bottom = schedule::last_line(beam.kind);
-    known
-        & (1 <= beam.cycle)
-        & (beam.cycle <= last)
-        & (beam.raster <= bottom)
-        & (regs.compare <= 511)
-        & counted
-        & (rows.vc <= 1023)
-        & (rows.vcbase <= 1023)
-        & (rows.rc <= 7)
-        & (vmli <= limit)
-        & eight
-        & placed
-        & clocked
-        & forced
-        & (bus.lost <= beam.cycle as u64)
+    let kind = side.beam.kind;
+    schedule::is_known(kind)
+        & (1 <= side.beam.cycle)
+        & (side.beam.cycle <= schedule::last_cycle(kind))
+        & (side.beam.raster <= schedule::last_line(kind))
+        & (chip.regs.compare <= 511)
+        & aec_fine(side.bus.aec)
+        & (side.rows.vc <= 1023)
+        & (side.rows.vcbase <= 1023)
+        & (side.rows.rc <= 7)
+        & (u16::from(side.rows.vmli) <= vmli_limit(side.beam.cycle))
+        & side.sprites.fine()
+        & place_fine(side.pending.place)
+        & clock_fine(side.bus.clock)
+        & clock_fine(chip.picture.pen.forced)
+        & (side.bus.lost <= u64::from(side.beam.cycle))
 }
 
 // Why a tick or a late byte does not take this state: 0 where it does.
+#[tactic(auto, unfolding(crate::specs::Accept::state_refusal))]
 pub fn state_refusal(chip: Chip) -> u8
     ensures { result ≡ state_refusal chip }
 {
-    let side = chip.side;
-    let beam = side.beam;
-    let known = schedule::is_known(beam.kind);
-    if !known {
+    if !schedule::is_known(chip.side.beam.kind) {
         return 12;
     }
-    let fine = is_accepted(chip);
-    if !fine {
+    if !is_accepted(chip) {
         return 3;
     }
     0

@@ -1,6 +1,7 @@
 -- A turn from its parts: what the driver made and what was told, by the names of the definitions. Assumes nothing.
 use Prim.Native.Nat.{ℕ, ◌+◌, ◌≤◌}
 use mathlib.Core.Path.{◌≡◌, sym, ◌∙◌, ap, subst}
+use mathlib.Core.Bool.{Bool, true, false, cond}
 use mathlib.Core.List.{List}
 use Rattle.script.specs.declared.Found.{Found}
 use Rattle.driver.specs.declared.Made.{Made}
@@ -26,3 +27,8 @@ module _ (m after-m : Store) (b r : Page) (x : Made) (found : Found) (at : ℕ) 
       ) in
       let there = subst Turn made-is here in
       (there.0, (there.1.0, (there.1.1, f)))
+
+-- a page at the place where its next line goes
+pub roomed_by : (p : Page) (b : Bool) {at : ℕ} → at ≡ cond b p.at 0 → page p.run at ≡ cond b p (page p.run 0)
+roomed_by p true e = ap (page p.run) e
+roomed_by p false e = ap (page p.run) e

@@ -6,13 +6,12 @@ ghost use Rattle.line.specs.Text.{Written};
 ghost use Rattle.driver.specs.Driver.{store, store_at};
 ghost use Rattle.sheet.specs.Chart.{Ends};
 ghost use Rattle.clerk.specs.Bus.{tick_of, text_by, told_of};
-ghost use Rattle.clerk.specs.Machinery.Page.{page, begun_of, roomed, said_on, page_on};
+ghost use Rattle.clerk.specs.Machinery.Page.{begun_of, roomed, said_on, page_on};
 
 use access::Reads;
 use chip::Chip;
 use driver::{Event, Run};
 use script::Found;
-use streams::STDOUT_FILENO;
 
 // A run on its way: its text goes on at `at`.
 #[derive(Clone, Copy)]
@@ -21,16 +20,13 @@ pub struct Page {
     pub at: usize,
 }
 
-fn on_page(run: Run, at: usize) -> Page
-    ensures { result ≡ page run at }
-{
-    Page { run, at }
-}
-
 fn begun(kind: u8) -> Page
     ensures { result ≡ begun_of kind }
 {
-    on_page(driver::begun(kind), 0)
+    Page {
+        run: driver::begun(kind),
+        at: 0,
+    }
 }
 
 // ---- the text
@@ -40,11 +36,15 @@ fn tick(out: &mut [u8], at: usize, chip: Chip, reads: Reads) -> usize
     requires { at + 46 ≤ length out.old }
     ensures { (result ≤ at + 46) × Written out.old at (tick_of chip reads) out.new result }
 {
-    let side = chip.side;
-    let beam = side.beam;
-    let bus = side.bus;
-    let lost = (bus.lost % 65536) as u16;
-    ledger::line(out, at, beam.cycle, beam.raster, lost, reads)
+    let lost = (chip.side.bus.lost % 65536) as u16;
+    ledger::line(
+        out,
+        at,
+        chip.side.beam.cycle,
+        chip.side.beam.raster,
+        lost,
+        reads,
+    )
 }
 
 // What is said of a turn.
@@ -75,34 +75,20 @@ fn turn(
     ensures written { Written out.old before.at (said_on (store ram.old rom.old colour.old) before found) out.new result.at }
     ensures colour_after { store ram.new rom.new colour.new ≡ store_at (store ram.old rom.old colour.old) found.item }
 {
-    let run0 = before.run;
-    let made = driver::turn(run0, found, ram, rom, colour);
-    let run = made.run;
-    let event = made.event;
-    let reads = made.reads;
-    let at = told(out, before.at, event, run, reads);
-    on_page(run, at)
+    let made = driver::turn(before.run, found, ram, rom, colour);
+    let at = told(out, before.at, made.event, made.run, made.reads);
+    Page { run: made.run, at }
 }
 
 // ---- the blocks
-
-fn flush(out: &[u8], at: usize)
-    requires { at ≤ length out.now }
-{
-    io::write_all(STDOUT_FILENO, &out[..at]);
-}
 
 // Room for a line: where there is none, what is there is written out.
 fn with_room(before: Page, out: &[u8]) -> Page
     requires { before.at ≤ length out.now }
     ensures { result ≡ roomed before }
 {
-    if before.at <= 65490 {
-        return before;
-    }
-    flush(out, before.at);
-    let run = before.run;
-    on_page(run, 0)
+    let at = sheet::room(out, before.at, 65490);
+    Page { at, ..before }
 }
 
 // The bus of a whole run on a kind of chip to standard output, and the run as it ended. The memory that is lent is the run's own, and starts 0.
@@ -122,11 +108,9 @@ pub fn print(
     let mut page = begun(kind);
     while page.run.going {
         let roomy = with_room(page, out);
-        let run = roomy.run;
-        let cursor = run.cursor;
-        let found = cursor.next(input);
-        page = turn(roomy, found, &mut *ram, &mut *rom, &mut *colour, &mut *out);
+        let found = roomy.run.cursor.next(input);
+        page = turn(roomy, found, ram, rom, colour, out);
     }
-    flush(out, page.at);
+    sheet::flush(out, page.at);
     page
 }

@@ -6,22 +6,12 @@ use mathlib.Core.List.{List}
 use native.Mathlib.Numerals.{add-one}
 use native.Mathlib.Omega.{arith}
 use lib.Dec.{ltb, leb}
-use lib.ListN.{get_or, set}
-use lib.IntN.{ℤ}
+use lib.ListN.{get_or}
 use borrow.Author.Tests.{ne_eqb}
 use Rattle.rows.specs.Pending.{place_of}
-use Rattle.access.specs.declared.Latch.{Latch}
-use Rattle.access.specs.Merge.{Merging, merging, latch_of, merged, latched}
-use Rattle.lines.specs.Columns.{places_of, column_cycle, columns_line}
-use Rattle.columns.specs.Columns.{hidden_by, since_in, last_shown}
-
-pub places_none : (word : ℕ → ℕ) (m : List ℕ) → m ≡ places_of word 0 m
-unfolding places_of
-places_none word m = refl
-
-pub places_next : (word : ℕ → ℕ) (j : ℕ) (m : List ℕ) → set (places_of word j m) j (word j) ≡ places_of word (j + 1) m
-unfolding places_of
-places_next word j m = rw (add-one j)
+use Rattle.access.specs.Merge.{Merging, merging, merged, latched}
+use Rattle.lines.specs.Columns.{column_cycle, columns_line}
+use Rattle.columns.specs.Columns.{hidden_by, last_shown}
 
 module _ (shows plain : Bool) (hidden : ℕ → Bool) (since : ℕ → ℕ) where
   pub columns_none : (x : Merging) → x ≡ columns_line shows plain hidden since 0 x
@@ -37,31 +27,6 @@ module _ (shows plain : Bool) (hidden : ℕ → Bool) (since : ℕ → ℕ) wher
 
   pub columns_next : (j : ℕ) (x : Merging) {y z : Merging} → y ≡ columns_line shows plain hidden since j x → z ≡ column j y → z ≡ columns_line shows plain hidden since (j + 1) x
   columns_next j x e f = f ∙ ap (column j) e ∙ columns_more j x ∙ ap (λ (n : ℕ). columns_line shows plain hidden since n x) (sym (add-one j))
-
--- what a call of a column leaves
-pub column_done : (m : List ℕ) (j a b : ℕ) {r : Latch} {n : List ℕ} {h h' : Bool} {c c' f f' : ℕ} → h ≡ h' → c ≡ c' → f ≡ f'
-    → r ≡ latch_of (latched m true h false c f j a b) → n ≡ (latched m true h false c f j a b).matrix → merging r.ch r.carry n ≡ latched m true h' false c' f' j a b
-column_done m j a b {r} {n} {h} {h'} {c} {c'} {f} {f'} p q s e g = rw (← p, ← q, ← s, e, g)
-
--- all forty, with the clocks as they were handed in
-pub columns_all : (shows plain : Bool) (hidden : ℕ → Bool) {x x' y : Merging} {clock clock' forced forced' : ℤ} {j : ℕ} → clock ≡ clock' → forced ≡ forced' → j ≡ 40 → x ≡ x'
-    → y ≡ columns_line shows plain hidden (since_in clock forced) j x → y ≡ columns_line shows plain hidden (since_in clock' forced') 40 x'
-columns_all shows plain hidden {x = x} {clock = clock} {clock' = clock'} {forced' = forced'} {j = j} p q e d f =
-    f
-    ∙ ap (λ (z : ℤ). columns_line shows plain hidden (since_in clock z) j x) q
-    ∙ ap (λ (z : ℤ). columns_line shows plain hidden (since_in z forced') j x) p
-    ∙ ap (λ (n : ℕ). columns_line shows plain hidden (since_in clock' forced') n x) e
-    ∙ ap (columns_line shows plain hidden (since_in clock' forced') 40) d
-
--- where a column may merge
-pub may_merge : (shows plain soon : Bool) → ((shows && not plain) && soon) ≡ true → (true ≡ shows) × (false ≡ plain)
-may_merge true false soon e = (refl, refl)
-may_merge true true soon e = absurd (false≢true e)
-may_merge false plain soon e = absurd (false≢true e)
-
-pub merging_line : (hidden : ℕ → Bool) (since : ℕ → ℕ) (x : Merging) {y : Merging} {s shows p plain : Bool} → s ≡ shows → p ≡ plain
-    → y ≡ columns_line s p hidden since 40 x → y ≡ columns_line shows plain hidden since 40 x
-merging_line hidden since x {shows = shows} {p = p} d e f = f ∙ ap (λ (b : Bool). columns_line b p hidden since 40 x) d ∙ ap (λ (b : Bool). columns_line shows b hidden since 40 x) e
 
 place_same : (j : ℕ) → j < 40 → place_of j ≡ j
 unfolding place_of

@@ -39,14 +39,13 @@ pub struct Made {
 // ---- the run
 
 // A run file does not say of which kind its chip is.
+#[tactic(auto, unfolding(crate::specs::Driver::begun_of))]
 pub fn begun(kind: u8) -> Run
     ensures { result ≡ begun_of kind }
 {
-    let chip = chip::power_up(kind);
-    let cursor = Cursor::start();
     Run {
-        chip,
-        cursor,
+        chip: chip::power_up(kind),
+        cursor: Cursor::start(),
         done: 0,
         bank: 0,
         going: true,
@@ -57,96 +56,70 @@ pub fn begun(kind: u8) -> Run
 fn moved(run: Run, cursor: Cursor) -> Run
     ensures { result ≡ cursor_at run cursor }
 {
-    let chip = run.chip;
-    Run {
-        chip,
-        cursor,
-        done: run.done,
-        bank: run.bank,
-        going: run.going,
-    }
+    Run { cursor, ..run }
 }
 
 // The run that goes on or not.
 fn set_going(run: Run, going: bool) -> Run
     ensures { result ≡ going≔ going run }
 {
-    let chip = run.chip;
-    let cursor = run.cursor;
-    Run {
-        chip,
-        cursor,
-        done: run.done,
-        bank: run.bank,
-        going,
-    }
+    Run { going, ..run }
 }
 
 // One more; a file has 65,535 steps at most, so the count never stays.
 fn one_more(done: u16) -> u16
     ensures { result ≡ one_more done }
 {
-    if done < 65535 {
-        return done + 1;
-    }
-    done
+    done.saturating_add(1)
 }
 
 // A step is done.
 fn counted(run: Run, did: Done) -> Run
     ensures { result ≡ step_done run did }
 {
-    let chip = did.chip;
-    let cursor = run.cursor;
     Run {
-        chip,
-        cursor,
+        chip: did.chip,
         done: one_more(run.done),
         bank: did.bank,
-        going: run.going,
+        ..run
     }
 }
 
 // ---- the memory
 
 // A byte of a memory; past its end, which no file gets to, nothing.
+#[tactic(auto, unfolding(crate::specs::Driver::set_in))]
 fn set(memory: &mut [u8], address: u16, value: u8)
     ensures { memory.new ≡ set_in memory.old address value }
 {
-    let at = address as usize;
+    let at = usize::from(address);
     if at < memory.len() {
         memory[at] = value;
     }
 }
 
+#[tactic(auto, unfolding(crate::specs::Driver::store_set))]
 fn change(ram: &mut [u8], rom: &mut [u8], colour: &mut [u8], part: Part, address: u16, value: u8)
     ensures { store ram.new rom.new colour.new ≡ store_set part address value (store ram.old rom.old colour.old) }
 {
     match part {
-        Part::Start => (),
         Part::Ram => set(ram, address, value),
         Part::Rom => set(rom, address, value),
         Part::Colour => set(colour, address, value),
-        Part::Steps => (),
+        Part::Start | Part::Steps => (),
     }
 }
 
 // ---- a turn
 
 // A tick is told; another step is not.
+#[tactic(auto, unfolding(crate::specs::Driver::event_of))]
 fn event_of(step: Step) -> Event
     ensures { result ≡ event_of step }
 {
     match step {
         Step::Tick => Event::Tick,
-        Step::Write(_, _) => Event::Nothing,
-        Step::Expand(_) => Event::Nothing,
-        Step::Controls(_, _, _) => Event::Nothing,
-        Step::Late(_) => Event::Nothing,
-        Step::Borders => Event::Nothing,
-        Step::Bank(_) => Event::Nothing,
-        Step::Control1(_) => Event::Nothing,
-        Step::Control2(_) => Event::Nothing,
+        _ => Event::Nothing,
     }
 }
 
@@ -166,8 +139,7 @@ fn with_event(run: Run, event: Event) -> Made
 fn act(run: Run, step: Step, ram: &[u8], rom: &[u8], colour: &[u8]) -> Made
     ensures { result ≡ made_doing (store ram.now rom.now colour.now) run step }
 {
-    let chip = run.chip;
-    let did = run::step(chip, run.bank, step, ram, rom, colour);
+    let did = run::step(run.chip, run.bank, step, ram, rom, colour);
     if did.refused == 0 {
         return with_reads(counted(run, did), event_of(step), did.reads);
     }
@@ -178,10 +150,8 @@ fn act(run: Run, step: Step, ram: &[u8], rom: &[u8], colour: &[u8]) -> Made
 pub fn turn(before: Run, found: Found, ram: &mut [u8], rom: &mut [u8], colour: &mut [u8]) -> Made
     ensures { (result ≡ made_on (store ram.old rom.old colour.old) before found) × (store ram.new rom.new colour.new ≡ store_at (store ram.old rom.old colour.old) found.item) }
 {
-    let next = found.cursor;
-    let item = found.item;
-    let run = moved(before, next);
-    match item {
+    let run = moved(before, found.cursor);
+    match found.item {
         Item::Changes(_, _) => with_event(run, Event::Nothing),
         Item::Change(part, address, value) => {
             change(ram, rom, colour, part, address, value);

@@ -1,30 +1,15 @@
 // The dump of a run file for a waveform viewer: standard input is the file, standard output the Value Change Dump.
 #![tactic(auto)]
 
-ghost use Rattle.std.specs.Prelude.{◌≡◌, length};
-
-use streams::STDIN_FILENO;
-
-// More than the longest run file, which has 392,195 bytes.
-fn space() -> [u8; 400000]
-    ensures { 400000 ≡ length result }
-{
-    [0; 400000]
-}
-
 fn main() {
-    let mut input = space();
-    let n = io::read_full(STDIN_FILENO, &mut input);
-    let mut ram = [0u8; 16384];
-    let mut rom = [0u8; 4096];
-    let mut colour = [0u8; 1024];
-    let mut out = io::large_buffer();
-    tape::print(
-        schedule::KIND_6569,
-        &input[..n],
-        &mut ram,
-        &mut rom,
-        &mut colour,
-        &mut out,
-    );
+    sheet::of_input(|input, desk| {
+        tape::print(
+            schedule::KIND_6569,
+            input,
+            &mut desk.ram,
+            &mut desk.rom,
+            &mut desk.colour,
+            &mut desk.out,
+        );
+    });
 }

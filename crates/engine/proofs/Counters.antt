@@ -18,7 +18,6 @@ use Rattle.sprites.specs.Set.{sprite_mc≔, sprite_base≔, each≔, flip≔, vm
 use Rattle.sprites.specs.Sprites.{none, sprite_at, sprite_at≔, up_to, step_one, mcbase_stepped, starts, dma_begun, start_one, start_at, started, first_phased, second_phased, load_one, loaded, show_one, show_at, shown, mc_loaded, fetched}
 use Rattle.lines.specs.Sprites.{Slot, pointing, fetching, early_slots, late_slots, slot_moves, slots_move, sprites_stepped, sprites_first, sprites_second, sprites_loaded}
 use Rattle.lines.specs.Bus.{Masks, masks_of}
-use Rattle.engine.specs.declared.Bases.{Bases}
 use Rattle.engine.specs.Counters.{Sound, moved_by, base_by, late3, bases_of, ending_of, equal_of, settled_by, meets_of, stays_of, starts_of, dma_of, settled_of, incremented_of}
 use Rattle.engine.proofs.Masks.{not_bit, and_bit, or_bit, xor_bit, other, by_bits, nth, mask_small, mask_bit}
 use Rattle.engine.proofs.Views.{View, view_of, over_sound, over, step_v, step_local, start_v, start_local, load_v, load_local, show_v, show_local, fetch_v, fetch_local}
@@ -164,14 +163,11 @@ module _ (sp : Sprite) (fl cl sh : Bool) (n : ℕ) where
   none_moved bytes true = refl
   none_moved bytes false = refl
 
-  round : (bytes : ℕ) → (sp.mc + bytes) % 64 ≡ (sp.mc % 64 + bytes) % 64
-  round bytes = omega arith
-
   one_moved : (bytes : ℕ) (on : Bool) → fetch_v bytes n (having on) ≡ moved_view true bytes (having on)
-  one_moved bytes true = rw (round bytes)
+  one_moved bytes true = refl
   one_moved bytes false = refl
 
-  round_two : ((sp.mc + 1) % 64 + 2) % 64 ≡ (sp.mc % 64 + 3) % 64
+  round_two : ((sp.mc + 1) % 64 + 2) % 64 ≡ (sp.mc + 3) % 64
   round_two = omega arith
 
   two_moved : (on : Bool) → fetch_v 2 n (fetch_v 1 n (having on)) ≡ moved_view true 3 (having on)
@@ -359,7 +355,7 @@ alike : {e e' : List Sprite} {f f' c c' d d' p p' i i' v v' : ℕ} → e ≡ e' 
 alike pe pf pc pd pp pi pv = rw (pe, pf, pc, pd, pp, pi, pv)
 
 module _ (k : Kind) (s : Sprites) (raster : ℕ) (my : List ℕ) (enable yexp : ℕ) (h : Sound s) (he : enable < 256) (hy : yexp < 256) where
-  abbrev B : Bases
+  abbrev B : List ℕ
   B = bases_of k s
 
   abbrev line : ℕ
@@ -425,7 +421,7 @@ module _ (k : Kind) (s : Sprites) (raster : ℕ) (my : List ℕ) (enable yexp : 
   -- one sprite: its base by number, and its slots
   module _ (n b : ℕ) (c : n < 8) (early : Bool) (bytes : ℕ)
       (same_base : b ≡ base_by s n early bytes)
-      (at_end : nth (eqb B.b0 63) (eqb B.b1 63) (eqb B.b2 63) (eqb B.b3 63) (eqb B.b4 63) (eqb B.b5 63) (eqb B.b6 63) (eqb B.b7 63) n ≡ eqb b 63)
+      (at_end : nth (eqb (get_or B 0 0) 63) (eqb (get_or B 1 0) 63) (eqb (get_or B 2 0) 63) (eqb (get_or B 3 0) 63) (eqb (get_or B 4 0) 63) (eqb (get_or B 5 0) 63) (eqb (get_or B 6 0) 63) (eqb (get_or B 7 0) 63) n ≡ eqb b 63)
       (at-line : nth (eqb (get_or my 0 0) line) (eqb (get_or my 1 0) line) (eqb (get_or my 2 0) line) (eqb (get_or my 3 0) line) (eqb (get_or my 4 0) line) (eqb (get_or my 5 0) line) (eqb (get_or my 6 0) line) (eqb (get_or my 7 0) line) n ≡ eqb (get_or my n 0) line)
       (early-moved : (v : View) → slots_v (early_slots k) n v ≡ moved_view early bytes v) where
     abbrev en : Bool
@@ -518,7 +514,7 @@ module _ (k : Kind) (s : Sprites) (raster : ℕ) (my : List ℕ) (enable yexp : 
     pub mask : left.dma ≡ dma
     pub first : (sprites_first k raster my enable yexp s).dma ≡ dma
 
-  module _ (f0 : Facts 0 B.b0) (f1 : Facts 1 B.b1) (f2 : Facts 2 B.b2) (f3 : Facts 3 B.b3) (f4 : Facts 4 B.b4) (f5 : Facts 5 B.b5) (f6 : Facts 6 B.b6) (f7 : Facts 7 B.b7) where
+  module _ (f0 : Facts 0 (get_or B 0 0)) (f1 : Facts 1 (get_or B 1 0)) (f2 : Facts 2 (get_or B 2 0)) (f3 : Facts 3 (get_or B 3 0)) (f4 : Facts 4 (get_or B 4 0)) (f5 : Facts 5 (get_or B 5 0)) (f6 : Facts 6 (get_or B 6 0)) (f7 : Facts 7 (get_or B 7 0)) where
     each_same : left.each ≡ (settled_of s B raster my enable yexp).each
     unfolding sprite_at
     each_same = eight_list left.each loaded_fine.eight ∙ rw (f0.sprite, f1.sprite, f2.sprite, f3.sprite, f4.sprite, f5.sprite, f6.sprite, f7.sprite)
@@ -559,24 +555,24 @@ module _ (s : Sprites) (raster : ℕ) (my : List ℕ) (enable yexp : ℕ) (h : S
   counts : (k : Kind) → Counts k s raster my enable yexp h he hy
   counts the6569 =
       all the6569 s raster my enable yexp h he hy
-      (facts the6569 s raster my enable yexp h he hy 0 (bases_of the6569 s).b0 (omega arith) false 0 refl refl refl (not_moved 0 0))
-      (facts the6569 s raster my enable yexp h he hy 1 (bases_of the6569 s).b1 (omega arith) false 0 refl refl refl (not_moved 1 0))
-      (facts the6569 s raster my enable yexp h he hy 2 (bases_of the6569 s).b2 (omega arith) false 0 refl refl refl (not_moved 2 0))
-      (facts the6569 s raster my enable yexp h he hy 3 (bases_of the6569 s).b3 (omega arith) true 3 refl refl refl (twice_moved 3))
-      (facts the6569 s raster my enable yexp h he hy 4 (bases_of the6569 s).b4 (omega arith) true 3 refl refl refl (twice_moved 4))
-      (facts the6569 s raster my enable yexp h he hy 5 (bases_of the6569 s).b5 (omega arith) true 3 refl refl refl (twice_moved 5))
-      (facts the6569 s raster my enable yexp h he hy 6 (bases_of the6569 s).b6 (omega arith) true 3 refl refl refl (twice_moved 6))
-      (facts the6569 s raster my enable yexp h he hy 7 (bases_of the6569 s).b7 (omega arith) true 3 refl refl refl (twice_moved 7))
+      (facts the6569 s raster my enable yexp h he hy 0 (get_or (bases_of the6569 s) 0 0) (omega arith) false 0 refl refl refl (not_moved 0 0))
+      (facts the6569 s raster my enable yexp h he hy 1 (get_or (bases_of the6569 s) 1 0) (omega arith) false 0 refl refl refl (not_moved 1 0))
+      (facts the6569 s raster my enable yexp h he hy 2 (get_or (bases_of the6569 s) 2 0) (omega arith) false 0 refl refl refl (not_moved 2 0))
+      (facts the6569 s raster my enable yexp h he hy 3 (get_or (bases_of the6569 s) 3 0) (omega arith) true 3 refl refl refl (twice_moved 3))
+      (facts the6569 s raster my enable yexp h he hy 4 (get_or (bases_of the6569 s) 4 0) (omega arith) true 3 refl refl refl (twice_moved 4))
+      (facts the6569 s raster my enable yexp h he hy 5 (get_or (bases_of the6569 s) 5 0) (omega arith) true 3 refl refl refl (twice_moved 5))
+      (facts the6569 s raster my enable yexp h he hy 6 (get_or (bases_of the6569 s) 6 0) (omega arith) true 3 refl refl refl (twice_moved 6))
+      (facts the6569 s raster my enable yexp h he hy 7 (get_or (bases_of the6569 s) 7 0) (omega arith) true 3 refl refl refl (twice_moved 7))
   counts the6567_r8 =
       all the6567_r8 s raster my enable yexp h he hy
-      (facts the6567_r8 s raster my enable yexp h he hy 0 (bases_of the6567_r8 s).b0 (omega arith) false 0 refl refl refl (not_moved 0 0))
-      (facts the6567_r8 s raster my enable yexp h he hy 1 (bases_of the6567_r8 s).b1 (omega arith) false 0 refl refl refl (not_moved 1 0))
-      (facts the6567_r8 s raster my enable yexp h he hy 2 (bases_of the6567_r8 s).b2 (omega arith) false 0 refl refl refl (not_moved 2 0))
-      (facts the6567_r8 s raster my enable yexp h he hy 3 (bases_of the6567_r8 s).b3 (omega arith) true 2 refl refl refl (once_moved 2 3))
-      (facts the6567_r8 s raster my enable yexp h he hy 4 (bases_of the6567_r8 s).b4 (omega arith) true 3 refl refl refl (twice_moved 4))
-      (facts the6567_r8 s raster my enable yexp h he hy 5 (bases_of the6567_r8 s).b5 (omega arith) true 3 refl refl refl (twice_moved 5))
-      (facts the6567_r8 s raster my enable yexp h he hy 6 (bases_of the6567_r8 s).b6 (omega arith) true 3 refl refl refl (twice_moved 6))
-      (facts the6567_r8 s raster my enable yexp h he hy 7 (bases_of the6567_r8 s).b7 (omega arith) true 3 refl refl refl (twice_moved 7))
+      (facts the6567_r8 s raster my enable yexp h he hy 0 (get_or (bases_of the6567_r8 s) 0 0) (omega arith) false 0 refl refl refl (not_moved 0 0))
+      (facts the6567_r8 s raster my enable yexp h he hy 1 (get_or (bases_of the6567_r8 s) 1 0) (omega arith) false 0 refl refl refl (not_moved 1 0))
+      (facts the6567_r8 s raster my enable yexp h he hy 2 (get_or (bases_of the6567_r8 s) 2 0) (omega arith) false 0 refl refl refl (not_moved 2 0))
+      (facts the6567_r8 s raster my enable yexp h he hy 3 (get_or (bases_of the6567_r8 s) 3 0) (omega arith) true 2 refl refl refl (once_moved 2 3))
+      (facts the6567_r8 s raster my enable yexp h he hy 4 (get_or (bases_of the6567_r8 s) 4 0) (omega arith) true 3 refl refl refl (twice_moved 4))
+      (facts the6567_r8 s raster my enable yexp h he hy 5 (get_or (bases_of the6567_r8 s) 5 0) (omega arith) true 3 refl refl refl (twice_moved 5))
+      (facts the6567_r8 s raster my enable yexp h he hy 6 (get_or (bases_of the6567_r8 s) 6 0) (omega arith) true 3 refl refl refl (twice_moved 6))
+      (facts the6567_r8 s raster my enable yexp h he hy 7 (get_or (bases_of the6567_r8 s) 7 0) (omega arith) true 3 refl refl refl (twice_moved 7))
 
   pub loads_all : (k : Kind) → settled_of s (bases_of k s) raster my enable yexp ≡ sprites_loaded k raster my enable yexp s
   loads_all k = (counts k).same

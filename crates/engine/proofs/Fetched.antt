@@ -1,6 +1,6 @@
 -- The sprites' slots go by AEC in their own cycles alone: the two words of AEC are enough for them. Assumes nothing.
 use Prim.Native.Nat.{ℕ, ◌+◌, ◌-◌, ◌<◌, ◌≤◌}
-use mathlib.Core.Path.{◌≡◌, refl, sym, ◌∙◌, ap}
+use mathlib.Core.Path.{◌≡◌, ◌∙◌, ap}
 use mathlib.Core.Bool.{Bool}
 use mathlib.Core.List.{List, [], ◌∷◌}
 use native.Mathlib.Omega.{arith}
@@ -10,7 +10,7 @@ use Rattle.schedule.proofs.Places.{last_least}
 use Rattle.sprites.specs.declared.Sprites.{Sprites}
 use Rattle.arbitration.specs.declared.Bus.{Bus}
 use Rattle.picture.specs.Pen.{Latches}
-use Rattle.lines.specs.Sprites.{Slot, pointing, fetching, cycle_of, early_slots, late_slots}
+use Rattle.lines.specs.Sprites.{Slot, cycle_of, early_slots, late_slots}
 use Rattle.lines.specs.Bus.{Masks, low_in}
 use Rattle.lines.specs.Slots.{slots_read}
 use Rattle.waves.specs.Waves.{Wave, low_early, low_late}

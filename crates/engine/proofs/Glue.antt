@@ -1,5 +1,5 @@
 -- The whole line from what its calls gave. Assumes nothing.
-use Prim.Native.Nat.{ℕ, ◌+◌, ◌*◌, ◌≤◌, ◌<◌, ◌^◌}
+use Prim.Native.Nat.{ℕ, ◌<◌, ◌^◌}
 use mathlib.Core.Path.{◌≡◌, refl, sym, ◌∙◌, ap}
 use mathlib.Core.Bool.{Bool, true, false, not, ◌||◌}
 use mathlib.Core.List.{List}
@@ -25,7 +25,7 @@ use Rattle.access.specs.Merge.{Merging, merging}
 use Rattle.picture.specs.declared.Pen.{Pen}
 use Rattle.picture.specs.Pen.{Latches}
 use Rattle.world.specs.World.{World}
-use Rattle.lines.specs.Begin.{kind_in, line_of, wraps_of, raster_of, latch_line, frame_line, irq_line, refresh_line, bad_of, rises_of}
+use Rattle.lines.specs.Begin.{kind_in, frame_line, irq_line, refresh_line, bad_of}
 use Rattle.lines.specs.Bus.{Masks, masks_of, bus_line}
 use Rattle.lines.specs.Rows.{rows_line, shows_of, base_of, rc_of}
 use Rattle.lines.specs.Sprites.{sprites_loaded, sprites_line}
@@ -42,7 +42,6 @@ use Rattle.engine.specs.declared.Framed.{Framed}
 use Rattle.engine.specs.declared.Counted.{Counted}
 use Rattle.engine.specs.declared.Turned.{Turned}
 use Rattle.engine.specs.Begin.{begun_of, interrupt_of, framed_of}
-use Rattle.engine.specs.declared.Bases.{Bases}
 use Rattle.engine.specs.Counters.{Sound, bases_of, settled_of, incremented_of, counted_of}
 use Rattle.engine.specs.Parts.{turned_of, two_masks, row_merged, pen_line, fetch_by, slots_by}
 use Rattle.engine.specs.World.{Takes}
@@ -102,7 +101,7 @@ turn_glue g s begun irq framed counted bus rows refresh cycle masks =
     let asked = (rw (counted, begun) at bus) ∙ ap (λ (m : Masks). bus_line (kind_in s) (bad_of g s) m s.bus) (sym (masks_glue g s begun masks)) in
     rw (asked, irq, framed, counted, rows, refresh, begun, cycle)
 
-pub count_glue : (s : Sprites) (kind raster : ℕ) (my : List ℕ) (enable yexp : ℕ) {b : Bases} {l a : Sprites} → Sound s → enable < 256 → yexp < 256
+pub count_glue : (s : Sprites) (kind raster : ℕ) (my : List ℕ) (enable yexp : ℕ) {b : List ℕ} {l a : Sprites} → Sound s → enable < 256 → yexp < 256
     → b ≡ bases_of (kind_of kind) s
     → l ≡ settled_of s b raster my enable yexp
     → a ≡ incremented_of (eqb kind 1) l
@@ -110,7 +109,7 @@ pub count_glue : (s : Sprites) (kind raster : ℕ) (my : List ℕ) (enable yexp 
 unfolding sprites_line
 count_glue s kind raster my enable yexp h he hy b l a =
     let k = kind_of kind in
-    let ll = l ∙ ap (λ (x : Bases). settled_of s x raster my enable yexp) b ∙ loads_all s raster my enable yexp h he hy k in
+    let ll = l ∙ ap (λ (x : List ℕ). settled_of s x raster my enable yexp) b ∙ loads_all s raster my enable yexp h he hy k in
     let aa = (rw (late3_is kind, ll) at a) ∙ late_slots_lem (sprites_loaded k raster my enable yexp s) (loaded_fine k s raster my enable yexp h he hy) k in
     rw (ll, aa)
 
@@ -119,7 +118,7 @@ pub show_glue : (h : Host) (g : Registers) (rows : Rows) (b : Begun) (f : Framed
     → rc ≡ pick b.bad 0 rows.rc
     → mode ≡ mode_number g.ctrl1 g.ctrl2
     → old ≡ pick p.changing mode p.old
-    → merging ch carry mm ≡ columns_line (rows.display || b.rises) (b.bad || not (eqb rc 0)) (hidden_by f.first f.second f.rest) (since_in clock p.forced) 40 (merging p.ch p.carry (matrix_line (word_in h.ram h.rom h.colour h.bank g.ptrs base) b.bad (rows.display || b.rises) matrix))
+    → merging ch carry mm ≡ columns_line (rows.display || b.rises) (b.bad || not (eqb rc 0)) (hidden_by f.hidden.first f.hidden.second f.hidden.rest) (since_in clock p.forced) 40 (merging p.ch p.carry (matrix_line (word_in h.ram h.rom h.colour h.bank g.ptrs base) b.bad (rows.display || b.rises) matrix))
     → (◌≡◌ {A = Pen} (record { ch = ch; carry = carry; gfx = 0; mode = mode; old = old; changing = false; forced = p.forced }) (pen_line g (row_merged h g.ptrs rows b f clock p matrix) p))
     × (mm ≡ (row_merged h g.ptrs rows b f clock p matrix).matrix)
 unfolding row_merged shows_of base_of rc_of

@@ -1,7 +1,7 @@
 -- One sprite of the eight: what each step of the counters does to it, and that it leaves the others alone. Assumes nothing.
 use mathlib.Core.Path.{◌≡◌, refl, sym, ◌∙◌, ap}
-use mathlib.Core.Bool.{Bool, true, false, not, ◌&&◌, ◌||◌, cond}
-use mathlib.Core.List.{List, [], ◌∷◌}
+use mathlib.Core.Bool.{Bool, true, false, not, ◌&&◌, cond}
+use mathlib.Core.List.{List}
 use Prim.Native.Nat.{ℕ, zero, suc, ◌+◌, ◌%◌, ◌<◌, ◌≤◌}
 use native.Mathlib.Omega.{arith}
 use native.Mathlib.Decide.{ℕ_discrete}
@@ -15,7 +15,7 @@ use Rattle.laws.proofs.Choice.{either, under}
 use Rattle.sprites.specs.declared.Sprite.{Sprite}
 use Rattle.sprites.specs.declared.Sprites.{Sprites}
 use Rattle.sprites.specs.Set.{sprite_mc≔, sprite_base≔}
-use Rattle.sprites.specs.Sprites.{none, sprite_at, sprite_at≔, up_to, next_base, mask_after, step_one, starts, dma_begun, start_one, start_at, started, load_one, loaded, show_one, show_at, shown, fetched}
+use Rattle.sprites.specs.Sprites.{none, sprite_at, sprite_at≔, up_to, next_base, mask_after, step_one, starts, dma_begun, start_one, start_at, load_one, show_one, show_at, shown, fetched}
 use Rattle.engine.specs.Counters.{Sound}
 use Rattle.engine.proofs.Masks.{with_bit_lem, without_bit_lem, with_small, without_small}
 

@@ -31,7 +31,5 @@ abbrev pub framed_of : ℕ → ℕ → Bool → Bool → Border → Framed
 framed_of line raster den csel b =
     record {
       border = border_line line raster den csel b;
-      first = hidden_in line raster den csel b 0;
-      second = hidden_in line raster den csel b 1;
-      rest = hidden_in line raster den csel b 2;
+      hidden = record { first = hidden_in line raster den csel b 0; second = hidden_in line raster den csel b 1; rest = hidden_in line raster den csel b 2 };
     }

@@ -1,5 +1,5 @@
 -- The sprites' counters over a line in the code's own words: number by number, the eight masks at once. No rules: `proofs/Counters.antt` has them from the line's definition.
-use Rattle.std.specs.Prelude.{ℕ, ◌+◌, ◌-◌, ◌%◌, ◌<◌, ◌≡◌, Bool, true, false, ◌&&◌, cond, List, [], ◌∷◌, eqb, length, get_or}
+use Rattle.std.specs.Prelude.{ℕ, ◌-◌, ◌%◌, ◌<◌, ◌≡◌, Bool, true, false, ◌&&◌, cond, List, [], ◌∷◌, eqb, length, get_or}
 use Rattle.std.specs.Int.Bits.{bit_and, bit_or, bit_xor}
 use Rattle.laws.specs.Bits.{has_bit}
 use Rattle.laws.specs.Pick.{pick}
@@ -7,9 +7,8 @@ use Rattle.schedule.specs.Kind.{Kind, the6569, the6567_r8}
 use Rattle.sprites.specs.declared.Sprite.{Sprite}
 use Rattle.sprites.specs.declared.Sprites.{Sprites}
 use Rattle.sprites.specs.Set.{sprite_mc≔, each≔}
-use Rattle.sprites.specs.Sprites.{sprite_at, next_base}
+use Rattle.sprites.specs.Sprites.{sprite_at, next_base, mc_moved}
 use Rattle.lines.specs.Sprites.{sprites_loaded, sprites_line}
-use Rattle.engine.specs.declared.Bases.{Bases}
 use Rattle.engine.specs.declared.Counted.{Counted}
 
 -- what an array of eight and bytes tell of the sprites by their types
@@ -21,7 +20,7 @@ pub record Sound (s : Sprites) : Type 0 where
 
 -- MC after some bytes
 abbrev pub moved_by : Bool → ℕ → ℕ → ℕ
-moved_by on bytes mc = cond on ((mc % 64 + bytes) % 64) mc
+moved_by on bytes mc = mc_moved on bytes mc
 
 -- a sprite's base after the step of MCBASE, with the bytes of its slots before it
 abbrev pub base_by : Sprites → ℕ → Bool → ℕ → ℕ
@@ -37,40 +36,40 @@ abbrev pub late3 : Kind → Bool
 late3 the6569 = false
 late3 the6567_r8 = true
 
-abbrev pub bases_of : Kind → Sprites → Bases
+abbrev pub bases_of : Kind → Sprites → List ℕ
 bases_of k s =
-    record {
-      b0 = base_by s 0 false 0;
-      b1 = base_by s 1 false 0;
-      b2 = base_by s 2 false 0;
-      b3 = base_by s 3 true (early3 k);
-      b4 = base_by s 4 true 3;
-      b5 = base_by s 5 true 3;
-      b6 = base_by s 6 true 3;
-      b7 = base_by s 7 true 3;
-    }
+    base_by s 0 false 0
+    ∷ base_by s 1 false 0
+    ∷ base_by s 2 false 0
+    ∷ base_by s 3 true (early3 k)
+    ∷ base_by s 4 true 3
+    ∷ base_by s 5 true 3
+    ∷ base_by s 6 true 3
+    ∷ base_by s 7 true 3
+    ∷ []
 
 -- eight tests as a mask
 unfoldable pub mask_of : Bool → Bool → Bool → Bool → Bool → Bool → Bool → Bool → ℕ
 mask_of c0 c1 c2 c3 c4 c5 c6 c7 =
     bit_or (bit_or (bit_or (bit_or (bit_or (bit_or (bit_or (cond c0 1 0) (cond c1 2 0)) (cond c2 4 0)) (cond c3 8 0)) (cond c4 16 0)) (cond c5 32 0)) (cond c6 64 0)) (cond c7 128 0)
 
-abbrev pub ending_of : Bases → ℕ
-ending_of b = mask_of (eqb b.b0 63) (eqb b.b1 63) (eqb b.b2 63) (eqb b.b3 63) (eqb b.b4 63) (eqb b.b5 63) (eqb b.b6 63) (eqb b.b7 63)
-
+-- the sprites whose byte is y, and those whose base is that of their last row
 abbrev pub equal_of : List ℕ → ℕ → ℕ
-equal_of my y = mask_of (eqb (get_or my 0 0) y) (eqb (get_or my 1 0) y) (eqb (get_or my 2 0) y) (eqb (get_or my 3 0) y) (eqb (get_or my 4 0) y) (eqb (get_or my 5 0) y) (eqb (get_or my 6 0) y) (eqb (get_or my 7 0) y)
+equal_of bytes y = mask_of (eqb (get_or bytes 0 0) y) (eqb (get_or bytes 1 0) y) (eqb (get_or bytes 2 0) y) (eqb (get_or bytes 3 0) y) (eqb (get_or bytes 4 0) y) (eqb (get_or bytes 5 0) y) (eqb (get_or bytes 6 0) y) (eqb (get_or bytes 7 0) y)
+
+abbrev pub ending_of : List ℕ → ℕ
+ending_of bases = equal_of bases 63
 
 -- a sprite after the comparisons and the load of MC
 abbrev pub settled_by : Sprites → ℕ → ℕ → ℕ → Sprite
 settled_by s k starts base = record { number = (sprite_at s k).number; mc = pick (has_bit starts k) 0 base; base = pick (has_bit starts k) 0 base }
 
-module _ (s : Sprites) (b : Bases) (raster : ℕ) (my : List ℕ) (enable yexp : ℕ) where
+module _ (s : Sprites) (bases : List ℕ) (raster : ℕ) (my : List ℕ) (enable yexp : ℕ) where
   abbrev pub meets_of : ℕ
   meets_of = bit_and enable (equal_of my (raster % 256))
 
   abbrev pub stays_of : ℕ
-  stays_of = bit_and s.dma (255 - ending_of b)
+  stays_of = bit_and s.dma (255 - ending_of bases)
 
   abbrev pub starts_of : ℕ
   starts_of = bit_and meets_of (255 - stays_of)
@@ -83,14 +82,14 @@ module _ (s : Sprites) (b : Bases) (raster : ℕ) (my : List ℕ) (enable yexp :
   settled_of =
       record {
         each =
-            settled_by s 0 starts_of b.b0
-            ∷ settled_by s 1 starts_of b.b1
-            ∷ settled_by s 2 starts_of b.b2
-            ∷ settled_by s 3 starts_of b.b3
-            ∷ settled_by s 4 starts_of b.b4
-            ∷ settled_by s 5 starts_of b.b5
-            ∷ settled_by s 6 starts_of b.b6
-            ∷ settled_by s 7 starts_of b.b7
+            settled_by s 0 starts_of (get_or bases 0 0)
+            ∷ settled_by s 1 starts_of (get_or bases 1 0)
+            ∷ settled_by s 2 starts_of (get_or bases 2 0)
+            ∷ settled_by s 3 starts_of (get_or bases 3 0)
+            ∷ settled_by s 4 starts_of (get_or bases 4 0)
+            ∷ settled_by s 5 starts_of (get_or bases 5 0)
+            ∷ settled_by s 6 starts_of (get_or bases 6 0)
+            ∷ settled_by s 7 starts_of (get_or bases 7 0)
             ∷ [];
         flip = bit_and (bit_xor s.flip yexp) (255 - bit_and starts_of yexp);
         clear = 0;

@@ -39,7 +39,7 @@ turned_of g s =
 unfoldable pub row_merged : Host → ℕ → Rows → Begun → Framed → ℤ → Pen → List ℕ → Merging
 row_merged h ptrs rows b f clock pen matrix =
     let shows = shows_of b.rises rows in
-    columns_line shows (b.bad || not (eqb (rc_of b.bad rows) 0)) (hidden_by f.first f.second f.rest) (since_in clock pen.forced) 40
+    columns_line shows (b.bad || not (eqb (rc_of b.bad rows) 0)) (hidden_by f.hidden.first f.hidden.second f.hidden.rest) (since_in clock pen.forced) 40
     (merging pen.ch pen.carry (matrix_line (word_in h.ram h.rom h.colour h.bank ptrs (base_of b.wraps rows)) b.bad shows matrix))
 
 -- the pen with that latch

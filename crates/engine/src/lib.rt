@@ -2,28 +2,28 @@
 // No step of a tick is in it: what a line does to each part is worked out at once, and the forty columns by column.
 #![tactic(auto)]
 
-ghost use Rattle.std.specs.Prelude.{◌≡◌, Bool, cond, ◌<◌, length};
+ghost use Rattle.std.specs.Prelude.{◌≡◌, ◌<◌};
 ghost use Rattle.laws.specs.Clock.{InRange};
-ghost use Rattle.memory.specs.Lent.{host};
-ghost use Rattle.memory.specs.Memory.{Lent};
+ghost use Rattle.memory.specs.Lent.{seen};
 ghost use Rattle.schedule.specs.Kind.{kind_of, last_cycle};
 ghost use Rattle.columns.specs.Columns.{Clocks};
 ghost use Rattle.engine.specs.Parts.{turned_of, row_merged, pen_line, two_masks, fetch_by, slots_by};
-ghost use Rattle.engine.specs.World.{world, Begins};
+ghost use Rattle.engine.specs.World.{world_in, Begins};
 ghost use Rattle.lines.specs.Side.{masks_in};
 ghost use Rattle.lines.specs.Whole.{line_world};
 ghost use Rattle.fetches.specs.Fetches.{latches};
 ghost use Rattle.laws.specs.Pick.{pick};
 ghost use Rattle.raster.specs.Refresh.{less_by};
-ghost use Rattle.sprites.specs.Sprites.{crunched, next_base};
-ghost use Rattle.engine.specs.Counters.{Sound, moved_by, base_by, early3, bases_of, mask_of, ending_of, equal_of, settled_by, settled_of, incremented_by, incremented_of, counted_of};
+ghost use Rattle.engine.specs.Counters.{Sound, base_by, early3, bases_of, equal_of, settled_by, settled_of, incremented_by, incremented_of, counted_of};
 ghost use Rattle.lines.specs.Bus.{masks_of};
 ghost use Rattle.lines.specs.Sprites.{sprites_loaded};
-ghost use Rattle.lines.specs.Rows.{rows_line, shows_of, base_of, rc_of};
+ghost use Rattle.lines.specs.Rows.{rows_line};
 ghost use Rattle.engine.specs.Begin.{begun_of, interrupt_of, framed_of};
 
-use arbitration::Bus;
+use access::{Latch, Slots};
 use border::Border;
+use columns::Hidden;
+use memory::{Host, Memory};
 use picture::Pen;
 use raster::Frame;
 use registers::{Controls, Irq, Registers};
@@ -49,90 +49,81 @@ pub struct Begun {
 fn begin(side: Side, g: Controls) -> Begun
     ensures { result ≡ begun_of g side }
 {
-    let beam = side.beam;
-    let frame = side.frame;
-    let last = timing::at_last_line(beam.kind, beam.raster);
-    let line = timing::next_line(beam.kind, beam.raster);
-    let wraps = frame.ending | last;
-    let raster = laws::pick16(wraps, 0, line);
-    let latch = laws::pick_bool(line == 0x30, g.den, beam.latch);
+    let last = timing::at_last_line(side.beam.kind, side.beam.raster);
+    let line = timing::next_line(side.beam.kind, side.beam.raster);
+    let wraps = side.frame.ending | last;
+    let latch = laws::pick(line == 0x30, g.den, side.beam.latch);
     let bad = timing::bad_line(line, g.yscroll, latch);
     Begun {
-        line: line,
-        wraps: wraps,
-        raster: raster,
+        line,
+        wraps,
+        raster: laws::pick(wraps, 0, line),
         matched: !last & (line == g.compare),
         latch: latch & !wraps,
         bad: bad & !wraps,
-        rises: bad & !beam.bad,
+        rises: bad & !side.beam.bad,
     }
 }
 
 // The raster interrupt: once while matched, and for line 0 without a look at the match.
-fn interrupt(irq: Irq, before: bool, matched: bool, wraps: bool, compare: u16) -> Irq
-    ensures { result ≡ interrupt_of irq before matched wraps compare }
+fn interrupt(irq: Irq, before: bool, begun: Begun, compare: u16) -> Irq
+    ensures { result ≡ interrupt_of irq before begun.matched begun.wraps compare }
 {
-    let raises = raster::match_raises(matched, before);
+    let raises = raster::match_raises(begun.matched, before);
     let told = raster::raise(irq, raises);
-    raster::raise(told, wraps & (compare == 0))
+    raster::raise(told, begun.wraps & (compare == 0))
+}
+
+// The refresh counter after the five accesses of a line.
+#[tactic(auto, unfolding(raster::specs::Refresh::less_by))]
+fn refreshed(wraps: bool, counter: u8) -> u8
+    ensures { result ≡ less_by 5 (pick wraps 0xFF counter) }
+{
+    laws::pick(wraps, 255, counter).wrapping_sub(5)
 }
 
 // ---- the border
 
-// What a line leaves of the border, and whether output is shut off in column 0, in column 1 and from column 2 on.
+// What a line leaves of the border, and where in the line output is shut off.
 #[derive(Clone, Copy)]
 pub struct Framed {
     pub border: Border,
-    pub first: bool,
-    pub second: bool,
-    pub rest: bool,
+    pub hidden: Hidden,
 }
 
-fn frame(b: Border, line: u16, raster: u16, den: bool, csel: bool) -> Framed
-    ensures { result ≡ framed_of line raster den csel b }
+#[tactic(auto, unfolding(lines::specs::Border::border_line, lines::specs::Border::hidden_in))]
+fn frame(b: Border, begun: Begun, g: Controls) -> Framed
+    ensures { result ≡ framed_of begun.line begun.raster g.den g.csel b }
 {
-    let begun = b.begin_line(line, den);
-    let held = begun.remember();
-    let wide = held.left40(csel, raster, den);
-    let kept = wide.remember();
-    let narrow = kept.left38(csel, raster, den);
-    let early = narrow.right38(csel);
-    let late = early.right40(csel);
-    let ended = late.line_end(raster, den);
+    let opened = b.begin_line(begun.line, g.den);
+    let wide = opened.remember().left40(g.csel, begun.raster, g.den);
+    let narrow = wide.remember().left38(g.csel, begun.raster, g.den);
+    let closed = narrow.right38(g.csel).right40(g.csel);
     Framed {
-        border: ended,
-        first: begun.disabled,
-        second: wide.disabled,
-        rest: narrow.disabled,
+        border: closed.line_end(begun.raster, g.den),
+        hidden: Hidden {
+            first: opened.disabled,
+            second: wide.disabled,
+            rest: narrow.disabled,
+        },
     }
-}
-
-// The refresh counter after the five accesses of a line.
-fn refreshed(wraps: bool, counter: u8) -> u8
-    ensures { result ≡ less_by 5 (pick wraps 0xFF counter) }
-{
-    let first = laws::pick8(wraps, 255, counter);
-    ((laws::wide(first) + 251) % 256) as u8
 }
 
 // ---- the rows
 
-fn row(rows: Rows, bad: bool, rises: bool, wraps: bool) -> Rows
-    ensures { result ≡ rows_line bad rises wraps rows }
+fn row(rows: Rows, begun: Begun) -> Rows
+    ensures { result ≡ rows_line begun.bad begun.rises begun.wraps rows }
 {
-    let shows = rows.display | rises;
-    let base = laws::pick16(wraps, 0, rows.vcbase);
-    let rc = laws::pick8(bad, 0, rows.rc);
-    let vc = laws::pick16(shows, (base % 1024 + 40) % 1024, base);
-    let goes = (shows & (rc != 7)) | bad;
-    let next = laws::pick16(rc == 7, vc, base);
-    let up = laws::pick8(goes, (rc % 8 + 1) % 8, rc);
-    let vmli = laws::pick8(shows, 40, 0);
+    let shows = rows.display | begun.rises;
+    let base = laws::pick(begun.wraps, 0, rows.vcbase);
+    let rc = laws::pick(begun.bad, 0, rows.rc);
+    let vc = laws::pick(shows, (base % 1024 + 40) % 1024, base);
+    let goes = (shows & (rc != 7)) | begun.bad;
     Rows {
-        vc: vc,
-        vcbase: next,
-        rc: up,
-        vmli: vmli,
+        vc,
+        vcbase: laws::pick(rc == 7, vc, base),
+        rc: laws::pick(goes, (rc % 8 + 1) % 8, rc),
+        vmli: laws::pick(shows, 40, 0),
         display: goes,
         transition: false,
         access: false,
@@ -140,46 +131,6 @@ fn row(rows: Rows, bad: bool, rises: bool, wraps: bool) -> Rows
 }
 
 // ---- the sprites' counters
-
-// The eight bases after the step of MCBASE.
-#[derive(Clone, Copy)]
-pub struct Bases {
-    pub b0: u8,
-    pub b1: u8,
-    pub b2: u8,
-    pub b3: u8,
-    pub b4: u8,
-    pub b5: u8,
-    pub b6: u8,
-    pub b7: u8,
-}
-
-// Bit by bit where clearing is pending.
-fn crunch(base: u8, mc: u8) -> u8
-    ensures { result ≡ crunched base mc }
-{
-    (0x2A & base & mc) | (0x15 & (base | mc))
-}
-
-fn next_base(flip: bool, clearing: bool, base: u8, mc: u8) -> u8
-    ensures { result ≡ next_base flip clearing base mc }
-{
-    if !flip {
-        return base;
-    }
-    if clearing { crunch(base, mc) } else { mc }
-}
-
-// MC after some bytes of a sprite's slots.
-fn moved(on: bool, mc: u8, bytes: u8) -> u8
-    requires { bytes < 4 }
-    ensures { result ≡ moved_by on bytes mc }
-{
-    if on {
-        return (mc % 64 + bytes) % 64;
-    }
-    mc
-}
 
 // A sprite's base after the step of MCBASE: before it come the bytes of its slots in this line, if there are any.
 fn base_at(s: Sprites, k: usize, early: bool, bytes: u8) -> u8
@@ -190,96 +141,51 @@ fn base_at(s: Sprites, k: usize, early: bool, bytes: u8) -> u8
     let on = laws::has_bit(s.dma, k);
     let flip = laws::has_bit(s.flip, k);
     let clearing = laws::has_bit(s.clear, k);
-    let mc = moved(on & early, p.mc, bytes);
-    next_base(flip, clearing, p.base, mc)
+    let mc = sprites::moved(on & early, p.mc, bytes);
+    sprites::next_base(flip, clearing, p.base, mc)
 }
 
 // The bytes of sprite 3 that a line begins with: its pointer slot may be in the line before.
+#[tactic(auto, unfolding(schedule::specs::Kind::kind_of))]
 fn bytes3(kind: u8) -> u8
     ensures { result ≡ early3 (kind_of kind) }
 {
-    if kind == schedule::KIND_6567R8 {
-        return 2;
-    }
-    3
+    if kind == schedule::KIND_6567R8 { 2 } else { 3 }
 }
 
-fn stepped(s: Sprites, kind: u8) -> Bases
+// The eight bases after the step of MCBASE.
+#[tactic(auto, using(crate::proofs::Columned::early3_small))]
+fn stepped(s: Sprites, kind: u8) -> [u8; 8]
     requires { Sound s }
-    ensures fact_1 { result ≡ bases_of (kind_of kind) s }
-    ensures fact_2 { Sound s }
+    ensures bases { result ≡ bases_of (kind_of kind) s }
+    ensures sound { Sound s }
 {
     let three = bytes3(kind);
-    let b0 = base_at(s, 0, false, 0);
-    let b1 = base_at(s, 1, false, 0);
-    let b2 = base_at(s, 2, false, 0);
-    let b3 = base_at(s, 3, true, three);
-    let b4 = base_at(s, 4, true, 3);
-    let b5 = base_at(s, 5, true, 3);
-    let b6 = base_at(s, 6, true, 3);
-    let b7 = base_at(s, 7, true, 3);
-    Bases {
-        b0: b0,
-        b1: b1,
-        b2: b2,
-        b3: b3,
-        b4: b4,
-        b5: b5,
-        b6: b6,
-        b7: b7,
-    }
+    [
+        base_at(s, 0, false, 0),
+        base_at(s, 1, false, 0),
+        base_at(s, 2, false, 0),
+        base_at(s, 3, true, three),
+        base_at(s, 4, true, 3),
+        base_at(s, 5, true, 3),
+        base_at(s, 6, true, 3),
+        base_at(s, 7, true, 3),
+    ]
 }
 
-fn bit_if(c: bool, bit: u8) -> u8
-    ensures { result ≡ cond c bit 0 }
+// The sprites whose byte is y, as a mask, sprite k at bit k.
+#[tactic(auto, unfolding(crate::specs::Counters::mask_of, laws::specs::Pick::pick))]
+fn equal(bytes: [u8; 8], y: u8) -> u8
+    ensures { result ≡ equal_of bytes y }
 {
-    if c { bit } else { 0 }
-}
-
-// Eight tests as a mask, sprite k at bit k.
-fn mask8(c0: bool, c1: bool, c2: bool, c3: bool, c4: bool, c5: bool, c6: bool, c7: bool) -> u8
-    ensures { result ≡ mask_of c0 c1 c2 c3 c4 c5 c6 c7 }
-{
-    bit_if(c0, 1)
-        | bit_if(c1, 2)
-        | bit_if(c2, 4)
-        | bit_if(c3, 8)
-        | bit_if(c4, 16)
-        | bit_if(c5, 32)
-        | bit_if(c6, 64)
-        | bit_if(c7, 128)
-}
-
-// The sprites whose base is that of their last row.
-fn ending(b: Bases) -> u8
-    ensures { result ≡ ending_of b }
-{
-    mask8(
-        b.b0 == 63,
-        b.b1 == 63,
-        b.b2 == 63,
-        b.b3 == 63,
-        b.b4 == 63,
-        b.b5 == 63,
-        b.b6 == 63,
-        b.b7 == 63,
-    )
-}
-
-// The sprites whose Y is the line's low byte.
-fn equal(my: [u8; 8], y: u8) -> u8
-    ensures { result ≡ equal_of my y }
-{
-    mask8(
-        my[0] == y,
-        my[1] == y,
-        my[2] == y,
-        my[3] == y,
-        my[4] == y,
-        my[5] == y,
-        my[6] == y,
-        my[7] == y,
-    )
+    laws::pick(bytes[0] == y, 1, 0)
+        | laws::pick(bytes[1] == y, 2, 0)
+        | laws::pick(bytes[2] == y, 4, 0)
+        | laws::pick(bytes[3] == y, 8, 0)
+        | laws::pick(bytes[4] == y, 16, 0)
+        | laws::pick(bytes[5] == y, 32, 0)
+        | laws::pick(bytes[6] == y, 64, 0)
+        | laws::pick(bytes[7] == y, 128, 0)
 }
 
 // A sprite after the comparisons and the load of MC.
@@ -287,39 +193,36 @@ fn settled(s: Sprites, k: usize, starts: u8, base: u8) -> Sprite
     requires { k < 8 }
     ensures { result ≡ settled_by s k starts base }
 {
-    let p = s.at(k);
-    let fresh = laws::has_bit(starts, k);
-    let next = laws::pick8(fresh, 0, base);
+    let next = laws::pick(laws::has_bit(starts, k), 0, base);
     Sprite {
-        number: p.number,
         mc: next,
         base: next,
+        ..s.at(k)
     }
 }
 
 // What the load of MC leaves of the sprites, by the bases that the step of MCBASE left.
-fn settle(s: Sprites, b: Bases, raster: u16, my: [u8; 8], enable: u8, yexp: u8) -> Sprites
-    ensures { result ≡ settled_of s b raster my enable yexp }
+fn settle(s: Sprites, bases: [u8; 8], raster: u16, g: Controls) -> Sprites
+    ensures { result ≡ settled_of s bases raster g.my g.enable g.yexp }
 {
-    let ends = ending(b);
-    let same = equal(my, (raster % 256) as u8);
-    let meets = enable & same;
-    let stays = s.dma & !ends;
+    let meets = g.enable & equal(g.my, (raster % 256) as u8);
+    let stays = s.dma & !equal(bases, 63);
     let starts = meets & !stays;
     let dma = stays | meets;
-    let e0 = settled(s, 0, starts, b.b0);
-    let e1 = settled(s, 1, starts, b.b1);
-    let e2 = settled(s, 2, starts, b.b2);
-    let e3 = settled(s, 3, starts, b.b3);
-    let e4 = settled(s, 4, starts, b.b4);
-    let e5 = settled(s, 5, starts, b.b5);
-    let e6 = settled(s, 6, starts, b.b6);
-    let e7 = settled(s, 7, starts, b.b7);
     Sprites {
-        each: [e0, e1, e2, e3, e4, e5, e6, e7],
-        flip: (s.flip ^ yexp) & !(starts & yexp),
+        each: [
+            settled(s, 0, starts, bases[0]),
+            settled(s, 1, starts, bases[1]),
+            settled(s, 2, starts, bases[2]),
+            settled(s, 3, starts, bases[3]),
+            settled(s, 4, starts, bases[4]),
+            settled(s, 5, starts, bases[5]),
+            settled(s, 6, starts, bases[6]),
+            settled(s, 7, starts, bases[7]),
+        ],
+        flip: (s.flip ^ g.yexp) & !(starts & g.yexp),
         clear: 0,
-        dma: dma,
+        dma,
         prev: dma,
         display: (s.display | meets) & dma,
         vmatch: 0,
@@ -333,30 +236,29 @@ fn incremented(s: Sprites, k: usize, late: bool, bytes: u8) -> Sprite
 {
     let p = s.at(k);
     let on = laws::has_bit(s.dma, k);
-    let mc = moved(on & late, p.mc, bytes);
     Sprite {
-        number: p.number,
-        mc: mc,
-        base: p.base,
+        mc: sprites::moved(on & late, p.mc, bytes),
+        ..p
     }
 }
 
 // What the slots of the line's end leave: sprites 0 to 2 have both theirs there, sprite 3 may have its pointer slot there.
+#[tactic(auto, unfolding(sprites::specs::Sprites::sprite_at))]
 fn increment(s: Sprites, third: bool) -> Sprites
     ensures { result ≡ incremented_of third s }
 {
-    let e0 = incremented(s, 0, true, 3);
-    let e1 = incremented(s, 1, true, 3);
-    let e2 = incremented(s, 2, true, 3);
-    let e3 = incremented(s, 3, third, 1);
     Sprites {
-        each: [e0, e1, e2, e3, s.each[4], s.each[5], s.each[6], s.each[7]],
-        flip: s.flip,
-        clear: s.clear,
-        dma: s.dma,
-        prev: s.prev,
-        display: s.display,
-        vmatch: s.vmatch,
+        each: [
+            incremented(s, 0, true, 3),
+            incremented(s, 1, true, 3),
+            incremented(s, 2, true, 3),
+            incremented(s, 3, third, 1),
+            s.each[4],
+            s.each[5],
+            s.each[6],
+            s.each[7],
+        ],
+        ..s
     }
 }
 
@@ -367,18 +269,15 @@ pub struct Counted {
     pub after: Sprites,
 }
 
-fn count(s: Sprites, kind: u8, raster: u16, my: [u8; 8], enable: u8, yexp: u8) -> Counted
-    ensures fact_1 { result ≡ counted_of (kind_of kind) raster my enable yexp s }
-    ensures fact_2 { masks_of (kind_of kind) raster my enable yexp s ≡ two_masks s.dma (sprites_loaded (kind_of kind) raster my enable yexp s).dma }
+fn count(s: Sprites, kind: u8, raster: u16, g: Controls) -> Counted
+    ensures counted { result ≡ counted_of (kind_of kind) raster g.my g.enable g.yexp s }
+    ensures masks { masks_of (kind_of kind) raster g.my g.enable g.yexp s ≡ two_masks s.dma (sprites_loaded (kind_of kind) raster g.my g.enable g.yexp s).dma }
 {
-    let b = stepped(s, kind);
+    let bases = stepped(s, kind);
     let third = kind == schedule::KIND_6567R8;
-    let loaded = settle(s, b, raster, my, enable, yexp);
+    let loaded = settle(s, bases, raster, g);
     let after = increment(loaded, third);
-    Counted {
-        loaded: loaded,
-        after: after,
-    }
+    Counted { loaded, after }
 }
 
 // ---- the timing side
@@ -393,40 +292,21 @@ pub struct Turned {
 }
 
 fn turn(side: Side, g: Controls) -> Turned
-    requires fact_1 { InRange side.bus.clock }
-    requires fact_2 { side.beam.cycle ≡ last_cycle (kind_of side.beam.kind) }
-    ensures fact_1 { result ≡ turned_of g side }
-    ensures fact_2 { masks_in g side ≡ two_masks side.sprites.dma (turned_of g side).loaded.dma }
+    requires clock { InRange side.bus.clock }
+    requires cycle { side.beam.cycle ≡ last_cycle (kind_of side.beam.kind) }
+    ensures turned { result ≡ turned_of g side }
+    ensures masks { masks_in g side ≡ two_masks side.sprites.dma (turned_of g side).loaded.dma }
 {
-    let beam0 = side.beam;
-    let frame0 = side.frame;
-    let irq0 = side.irq;
-    let border0 = side.border;
-    let sprites0 = side.sprites;
-    let bus0 = side.bus;
-    let rows0 = side.rows;
-    let pending = side.pending;
-    let kind = beam0.kind;
-    let my = g.my;
+    let kind = side.beam.kind;
     let begun = begin(side, g);
-    let irq = interrupt(
-        side.irq,
-        frame0.matched,
-        begun.matched,
-        begun.wraps,
-        g.compare,
-    );
-    let framed = frame(border0, begun.line, begun.raster, g.den, g.csel);
-    let counted = count(sprites0, kind, begun.raster, my, g.enable, g.yexp);
-    let loaded = counted.loaded;
-    let after = counted.after;
-    let border = framed.border;
-    let bus = waves::bus_line(bus0, kind, begun.bad, sprites0.dma, loaded.dma);
-    let rows = row(rows0, begun.bad, begun.rises, begun.wraps);
+    let irq = interrupt(side.irq, side.frame.matched, begun, g.compare);
+    let framed = frame(side.border, begun, g);
+    let counted = count(side.sprites, kind, begun.raster, g);
+    let dma = counted.loaded.dma;
+    let bus = waves::bus_line(side.bus, kind, begun.bad, side.sprites.dma, dma);
+    let rows = row(side.rows, begun);
     let refresh = refreshed(begun.wraps, side.refresh);
     let beam = Beam {
-        kind: kind,
-        cycle: beam0.cycle,
         raster: begun.raster,
         den: g.den,
         rsel: g.rsel,
@@ -435,119 +315,30 @@ fn turn(side: Side, g: Controls) -> Turned
         bad: begun.bad,
         rising: false,
         ba: true,
+        ..side.beam
     };
     let frame = Frame {
         ending: false,
         matched: begun.matched,
     };
     let next = Side {
-        irq: irq,
-        beam: beam,
-        frame: frame,
-        border: border,
-        sprites: after,
-        bus: bus,
-        rows: rows,
-        pending: pending,
+        irq,
+        beam,
+        frame,
+        border: framed.border,
+        sprites: counted.after,
+        bus,
+        rows,
         changed: irq.line,
-        refresh: refresh,
+        refresh,
+        ..side
     };
     Turned {
         side: next,
-        begun: begun,
-        framed: framed,
-        loaded: loaded,
+        begun,
+        framed,
+        loaded: counted.loaded,
     }
-}
-
-// ---- the forty columns
-
-// The pen and the matrix line after the forty columns.
-fn show(
-    matrix: &mut [u16],
-    pen: Pen,
-    rows: Rows,
-    begun: Begun,
-    framed: Framed,
-    clock: i64,
-    regs: Registers,
-    ram: &[u8],
-    rom: &[u8],
-    colour: &[u8],
-    bank: u8,
-) -> Pen
-    requires fact_1 { length matrix.old ≡ 40 }
-    requires fact_2 { rows.vcbase < 1024 }
-    requires fact_3 { Clocks clock pen.forced }
-    requires fact_4 { Lent ram.now rom.now }
-    requires fact_5 { length colour.now ≡ 1024 }
-    ensures fact_1 { result ≡ pen_line regs (row_merged (host ram.now rom.now colour.now bank) regs.ptrs rows begun framed clock pen matrix.old) pen }
-    ensures fact_2 { matrix.new ≡ (row_merged (host ram.now rom.now colour.now bank) regs.ptrs rows begun framed clock pen matrix.old).matrix }
-{
-    let shows = rows.display | begun.rises;
-    let base = laws::pick16(begun.wraps, 0, rows.vcbase);
-    let rc = laws::pick8(begun.bad, 0, rows.rc);
-    let mode = registers::mode(regs.ctrl1, regs.ctrl2);
-    let old = laws::pick8(pen.changing, mode, pen.old);
-    let latch = columns::columns(
-        matrix,
-        pen.ch,
-        pen.carry,
-        begun.bad,
-        shows,
-        begun.bad | (rc != 0),
-        base,
-        clock,
-        pen.forced,
-        framed.first,
-        framed.second,
-        framed.rest,
-        regs.ptrs,
-        ram,
-        rom,
-        colour,
-        bank,
-    );
-    Pen {
-        ch: latch.ch,
-        carry: latch.carry,
-        gfx: 0,
-        mode: mode,
-        old: old,
-        changing: false,
-        forced: pen.forced,
-    }
-}
-
-// ---- the sprites' slots
-
-// What the slots of the line fetch: with the sprites before it, and with those that the load of MC left.
-fn slots(
-    pointers: &mut [u8],
-    bytes: &mut [u8],
-    words: &mut [u32],
-    before: Sprites,
-    loaded: Sprites,
-    bus: Bus,
-    kind: u8,
-    bad: bool,
-    ptrs: u8,
-    ram: &[u8],
-    rom: &[u8],
-    bank: u8,
-)
-    requires fact_1 { (length pointers.old ≡ 8) × (length bytes.old ≡ 24) × (length words.old ≡ 8) }
-    requires fact_2 { Lent ram.now rom.now }
-    ensures { latches pointers.new bytes.new words.new ≡ slots_by (kind_of kind) (fetch_by (kind_of kind) bad (two_masks before.dma loaded.dma) bus ptrs ram.now rom.now bank) before loaded (latches pointers.old bytes.old words.old) }
-{
-    let low = waves::low_early(kind, before.dma, bus.aec);
-    let over = waves::low_late(kind, bad, loaded.dma);
-    fetches::early(
-        pointers, bytes, words, before, kind, low, ptrs, ram, rom, bank,
-    );
-    fetches::late(
-        pointers, bytes, words, loaded, kind, over, ptrs, ram, rom, bank,
-    );
 }
 
 // ---- the whole line
@@ -559,43 +350,80 @@ pub struct Core {
     pub pen: Pen,
 }
 
-// The next line, as a whole.
-pub fn line(
-    core: Core,
-    regs: Registers,
-    matrix: &mut [u16],
-    pointers: &mut [u8],
-    bytes: &mut [u8],
-    words: &mut [u32],
-    ram: &[u8],
-    rom: &[u8],
-    colour: &[u8],
-    bank: u8,
-) -> Core
-    requires { Begins (host ram.now rom.now colour.now bank) (world core matrix.old pointers.old bytes.old words.old) }
-    ensures { world result matrix.new pointers.new bytes.new words.new ≡ line_world (host ram.now rom.now colour.now bank) regs (world core matrix.old pointers.old bytes.old words.old) }
+// The picture's arrays, lent to a run.
+#[derive(Clone, Copy)]
+pub struct Arrays {
+    pub matrix: [u16; 40],
+    pub slots: Slots,
+}
+
+// The pen and the matrix line after the forty columns.
+fn show(matrix: &mut [u16; 40], core: Core, turned: Turned, regs: Registers, host: &Host<'_>) -> Pen
+    requires vcbase { core.side.rows.vcbase < 1024 }
+    requires clocks { Clocks core.side.bus.clock core.pen.forced }
+    ensures pen { result ≡ pen_line regs (row_merged (seen host.now) regs.ptrs core.side.rows turned.begun turned.framed core.side.bus.clock core.pen matrix.old) core.pen }
+    ensures matrix { matrix.new ≡ (row_merged (seen host.now) regs.ptrs core.side.rows turned.begun turned.framed core.side.bus.clock core.pen matrix.old).matrix }
 {
-    let side0 = core.side;
-    let pen0 = core.pen;
-    let beam0 = side0.beam;
-    let sprites0 = side0.sprites;
-    let bus0 = side0.bus;
-    let rows0 = side0.rows;
+    let shows = core.side.rows.display | turned.begun.rises;
+    let base = laws::pick(turned.begun.wraps, 0, core.side.rows.vcbase);
+    let rc = laws::pick(turned.begun.bad, 0, core.side.rows.rc);
+    let mode = registers::mode(regs.ctrl1, regs.ctrl2);
+    let old = laws::pick(core.pen.changing, mode, core.pen.old);
+    let latch = columns::columns(
+        matrix,
+        Latch {
+            ch: core.pen.ch,
+            carry: core.pen.carry,
+        },
+        turned.begun.bad,
+        shows,
+        turned.begun.bad | (rc != 0),
+        base,
+        core.side.bus.clock,
+        core.pen.forced,
+        turned.framed.hidden,
+        regs.ptrs,
+        host,
+    );
+    Pen {
+        ch: latch.ch,
+        carry: latch.carry,
+        gfx: 0,
+        mode,
+        old,
+        changing: false,
+        ..core.pen
+    }
+}
+
+// What the slots of the line fetch: with the sprites before it, and with those that the load of MC left.
+fn fetch(slots: &mut Slots, side: Side, turned: Turned, ptrs: u8, m: &Memory<'_>)
+    ensures { latches slots.new.pointers slots.new.bytes slots.new.words ≡ slots_by (kind_of side.beam.kind) (fetch_by (kind_of side.beam.kind) turned.begun.bad (two_masks side.sprites.dma turned.loaded.dma) side.bus ptrs m.now.ram.now m.now.rom.now m.now.bank) side.sprites turned.loaded (latches slots.old.pointers slots.old.bytes slots.old.words) }
+{
+    let kind = side.beam.kind;
+    let low = waves::low_early(kind, side.sprites.dma, side.bus.aec);
+    let over = waves::low_late(kind, turned.begun.bad, turned.loaded.dma);
+    fetches::early(slots, side.sprites, kind, low, ptrs, m);
+    fetches::late(slots, turned.loaded, kind, over, ptrs, m);
+}
+
+// The next line, as a whole.
+pub fn line(core: Core, regs: Registers, arrays: &mut Arrays, host: &Host<'_>) -> Core
+    requires { Begins (world_in core arrays.old) }
+    ensures { world_in result arrays.new ≡ line_world (seen host.now) regs (world_in core arrays.old) }
+{
     let g = registers::timed(regs);
-    let turned = turn(side0, g);
-    let side = turned.side;
-    let begun = turned.begun;
-    let framed = turned.framed;
-    let loaded = turned.loaded;
-    slots(
-        pointers, bytes, words, sprites0, loaded, bus0, beam0.kind, begun.bad, regs.ptrs, ram, rom,
-        bank,
+    let turned = turn(core.side, g);
+    fetch(
+        &mut arrays.slots,
+        core.side,
+        turned,
+        regs.ptrs,
+        &host.memory,
     );
-    let pen = show(
-        matrix, pen0, rows0, begun, framed, bus0.clock, regs, ram, rom, colour, bank,
-    );
+    let pen = show(&mut arrays.matrix, core, turned, regs, host);
     Core {
-        side: side,
-        pen: pen,
+        side: turned.side,
+        pen,
     }
 }

@@ -1,10 +1,10 @@
 -- A line's slots, each by the sprites as the first of them finds them: a slot moves its own sprite's MC alone. Assumes nothing.
-use Prim.Native.Nat.{ℕ, suc, ◌+◌, ◌-◌, ◌%◌, ◌<◌, ◌≤◌}
+use Prim.Native.Nat.{ℕ, suc, ◌+◌, ◌%◌, ◌<◌, ◌≤◌}
 use mathlib.Core.Path.{◌≡◌, refl, sym, ap, ◌∙◌}
 use mathlib.Core.Bool.{Bool, true, false, cond}
 use mathlib.Core.List.{List, [], ◌∷◌}
 use native.Mathlib.Omega.{arith}
-use lib.ListN.{length, length-set, get_or, set}
+use lib.ListN.{length, length-set, set}
 use lib.Seq.{get_or-set_same, get_or-set_other}
 use Rattle.laws.specs.Bits.{has_bit}
 use Rattle.laws.specs.Pick.{pick}
@@ -17,7 +17,7 @@ use Rattle.sprites.specs.Set.{sprite_mc≔, each≔}
 use Rattle.picture.specs.Pen.{Latches}
 use Rattle.lines.specs.Sprites.{Slot, pointing, fetching, pair, early_slots, late_slots}
 use Rattle.lines.specs.Slots.{Fetch, low_at, slot_reads, slots_read}
-use Rattle.fetches.specs.Fetches.{latches, fetch_early, fetch_late, mc_moved, pointing_read, fetching_read, pair_read, sprite_read, four_five, six_seven, four_to_seven, zero_one, zero_to_two, place_early, place_late, third_early, third_late}
+use Rattle.fetches.specs.Fetches.{fetch_early, fetch_late, mc_moved, pointing_read, fetching_read, pair_read, sprite_read, four_five, six_seven, four_to_seven, zero_one, zero_to_two, place_early, place_late, third_early, third_late}
 
 -- t is s but for sprites below m
 pub record From (m : ℕ) (s t : Sprites) : Type 0 where
@@ -57,7 +57,7 @@ fetched_other k b n t l = by (has_bit t.dma k)
     by false = refl
 
 fetched_same : (k : ℕ) (t : Sprites) → k < length t.each → (sprite_at (fetched k 1 t) k).mc ≡ mc_moved (has_bit t.dma k) (sprite_at t k).mc
-unfolding fetched sprite_at mc_moved
+unfolding fetched sprite_at
 fetched_same k t l = by (has_bit t.dma k)
   where
     by : (x : Bool) → (sprite_at (cond x (put k 1 t) t) k).mc ≡ cond x (((sprite_at t k).mc + 1) % 64) (sprite_at t k).mc

@@ -1,27 +1,37 @@
 -- A sprite's slots by its DMA bit, its MC and AEC alone (Bauer 3.6.3): what a line's slots are put together from.
-use Rattle.std.specs.Prelude.{ℕ, ◌+◌, ◌-◌, ◌%◌, Bool, cond, List, eqb}
+use Rattle.std.specs.Prelude.{ℕ, ◌+◌, ◌-◌, Bool, List, eqb}
 use Rattle.laws.specs.Bits.{has_bit}
 use Rattle.schedule.specs.Kind.{Kind, the6569, the6567_r8}
+use Rattle.access.specs.declared.Slots.{Slots}
 use Rattle.access.specs.Slots.{pointers_after, byte_two_after, data_after, words_after}
 use Rattle.sprites.specs.declared.Sprites.{Sprites}
-use Rattle.sprites.specs.Sprites.{sprite_at}
+use Rattle.sprites.specs.Sprites.{sprite_at, mc_moved as moved_by}
 use Rattle.picture.specs.Pen.{Latches}
-use Rattle.lines.specs.Slots.{Fetch}
+use Rattle.lines.specs.Slots.{Fetch as LineFetch}
+use Rattle.fetches.specs.declared.Fetch.{Fetch}
 
 abbrev pub latches : List ℕ → List ℕ → List ℕ → Latches
 latches pointers bytes words = record { pointers = pointers; bytes = bytes; words = words }
 
+-- the code's own arrays
+abbrev pub in_slots : Slots → Latches
+in_slots s = latches s.pointers s.bytes s.words
+
+-- a read from the memory that the code's slots go by
+abbrev pub from : Fetch → (ℕ → List ℕ → List ℕ → ℕ → Latches → Latches) → Latches → Latches
+from f read = read f.ptrs f.memory.ram.now f.memory.rom.now f.memory.bank
+
 -- AEC in the line's first cycles: bit c of the word is cycle c
-abbrev pub fetch_early : ℕ → ℕ → List ℕ → List ℕ → ℕ → Fetch
+abbrev pub fetch_early : ℕ → ℕ → List ℕ → List ℕ → ℕ → LineFetch
 fetch_early low ptrs ram rom bank = record { ptrs = ptrs; ram = ram; rom = rom; bank = bank; low = λ c. has_bit low c }
 
 -- and in its last ones: bit c - 54 is cycle c
-abbrev pub fetch_late : ℕ → ℕ → List ℕ → List ℕ → ℕ → Fetch
+abbrev pub fetch_late : ℕ → ℕ → List ℕ → List ℕ → ℕ → LineFetch
 fetch_late low ptrs ram rom bank = record { ptrs = ptrs; ram = ram; rom = rom; bank = bank; low = λ c. has_bit low (c - 54) }
 
 -- Bauer 3.8.1 rule 5: MC after byte 2, with DMA
-unfoldable pub mc_moved : Bool → ℕ → ℕ
-mc_moved on mc = cond on ((mc + 1) % 64) mc
+abbrev pub mc_moved : Bool → ℕ → ℕ
+mc_moved on mc = moved_by on 1 mc
 
 unfoldable pub pointing_read : ℕ → Bool → ℕ → Bool → ℕ → List ℕ → List ℕ → ℕ → Latches → Latches
 pointing_read n on mc low ptrs ram rom bank l =

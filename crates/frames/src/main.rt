@@ -9,27 +9,20 @@ fn space(fd: i32) {
 }
 
 fn show(answer: Answer) {
-    let chip = answer.chip;
-    let side = chip.side;
-    let beam = side.beam;
-    let bus = side.bus;
-    let clock = bus.clock;
-    io::print_decimal(STDOUT_FILENO, answer.refused as u64);
+    let side = answer.chip.side;
+    io::print_decimal(STDOUT_FILENO, u64::from(answer.refused));
     space(STDOUT_FILENO);
-    io::print_decimal(STDOUT_FILENO, beam.cycle as u64);
+    io::print_decimal(STDOUT_FILENO, u64::from(side.beam.cycle));
     space(STDOUT_FILENO);
-    io::print_decimal(STDOUT_FILENO, beam.raster as u64);
+    io::print_decimal(STDOUT_FILENO, u64::from(side.beam.raster));
     space(STDOUT_FILENO);
-    io::print_decimal(STDOUT_FILENO, whole(clock));
+    io::print_decimal(STDOUT_FILENO, whole(side.bus.clock));
     io::write_all(STDOUT_FILENO, b"\n");
 }
 
 // A clock as a plain number; 0 where it is below zero, which no accepted state has.
 fn whole(clock: i64) -> u64 {
-    if clock < 0 {
-        return 0;
-    }
-    clock as u64
+    u64::try_from(clock).unwrap_or(0)
 }
 
 fn main() {

@@ -7,6 +7,7 @@ ghost use Rattle.schedule.specs.Requests.{mask_at, sprites_in};
 ghost use Rattle.frontend.specs.Plain.{bad_line_number};
 
 // The sprites that ask for the bus in a cycle of the 6569, sprite k at bit k.
+#[tactic(auto, unfolding(schedule::specs::Kind::kind_of))]
 #[unsafe(no_mangle)]
 pub extern "C" fn nickelplait_mask(cycle: u16) -> u8
     ensures { result ≡ mask_at the6569 cycle }
@@ -15,6 +16,7 @@ pub extern "C" fn nickelplait_mask(cycle: u16) -> u8
 }
 
 // Whether a raster line is a bad one: 1 where it is, else 0.
+#[tactic(auto, unfolding(crate::specs::Plain::bad_line_number))]
 #[unsafe(no_mangle)]
 pub extern "C" fn nickelplait_bad_line(raster: u16, yscroll: u8, latch: u8) -> u8
     ensures { result ≡ bad_line_number raster yscroll latch }

@@ -1,24 +1,19 @@
 -- A time's digits.
-use Rattle.std.specs.Prelude.{ℕ, ◌+◌, ◌-◌, ◌*◌, true, false, cond, List, [], ◌∷◌, ltb, length}
-use Rattle.grammar.specs.declared.Time.{Time}
+use Rattle.std.specs.Prelude.{ℕ, ◌+◌, ◌-◌, ◌*◌, cond, List, [], ◌∷◌, ltb, length, Option, None, Some}
 use Rattle.grammar.specs.Words.{Word}
 
--- no time
-abbrev pub never : Time
-never = record { value = 0; fine = false }
+-- 02 (xiii), reading 10: a time is 0 to 2^64 - 1; what is none is None
+unfoldable pub time_by : ℕ → ℕ → Option ℕ
+time_by t digit = cond (ltb (t * 10 + digit) 18446744073709551616) (Some (t * 10 + digit)) None
 
--- 02 (xiii), reading 10: a time is 0 to 2^64 - 1
-unfoldable pub time_by : Time → ℕ → Time
-time_by t digit =
-    cond (ltb (t.value * 10 + digit) 18446744073709551616) (record { value = t.value * 10 + digit; fine = t.fine }) never
+unfoldable pub time_on : Option ℕ → ℕ → Option ℕ
+time_on None b = None
+time_on (Some t) b = cond (ltb b 48) None (cond (ltb 57 b) None (time_by t (b - 48)))
 
-unfoldable pub time_on : Time → ℕ → Time
-time_on t b = cond (ltb b 48) never (cond (ltb 57 b) never (time_by t (b - 48)))
-
-unfoldable pub time_from : Time → Word → Time
+unfoldable pub time_from : Option ℕ → Word → Option ℕ
 time_from t [] = t
 time_from t (b ∷ s) = time_from (time_on t b) s
 
 -- in decimal, of one digit at least
-unfoldable pub time_of : Word → Time
-time_of w = time_from (record { value = 0; fine = ltb 0 (length w) }) w
+unfoldable pub time_of : Word → Option ℕ
+time_of w = time_from (cond (ltb 0 (length w)) (Some 0) None) w

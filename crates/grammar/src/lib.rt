@@ -10,13 +10,6 @@ pub struct Digits {
     pub fine: bool,
 }
 
-// A time so far, and whether it is a time.
-#[derive(Clone, Copy)]
-pub struct Time {
-    pub value: u64,
-    pub fine: bool,
-}
-
 // What comes next.
 #[derive(Clone, Copy)]
 pub enum Phase {

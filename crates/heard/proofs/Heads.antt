@@ -7,43 +7,45 @@ use native.Mathlib.Omega.{arith}
 use lib.Dec.{eqb, ltb}
 use lib.ListN.{length, take, drop, get_or}
 use borrow.Author.Tests.{ltb-true, ltb-false}
+use Rattle.std.specs.Prelude.{Option, None, Some}
 use Rattle.laws.proofs.Choice.{either, by_test}
 use Rattle.line.specs.Text.{ascii}
 use Rattle.grammar.specs.declared.Head.{Head}
-use Rattle.grammar.specs.declared.Time.{Time}
 use Rattle.grammar.specs.declared.Digits.{Digits}
 use Rattle.grammar.specs.declared.Phase.{Phase}
 use Rattle.grammar.specs.declared.Phase.TheVariants.{Heading, Skipping, Kind, Size, Identifier, Name, Closing, Ending, Declared, Body, Aside, Valued, Done, Refused}
 use Rattle.grammar.specs.Words.{Word, same, lower}
 use Rattle.grammar.specs.Values.{none, broken, digits_from}
-use Rattle.grammar.specs.Times.{never, time_by, time_on, time_from, time_of}
-use Rattle.grammar.specs.Grammar.{Entry, head, go_to, in_heading, until_end, within, ours, fate, declare, judged, closing, change, changes_on, changed, apply, moved, timed, marked, passed, section, in_body, head_by}
+use Rattle.grammar.specs.Times.{time_by, time_on, time_from, time_of}
+use Rattle.grammar.specs.Grammar.{Entry, head, go_to, in_heading, until_end, within, ours, fate, declare, judged, closing, change, changes_on, changed, apply, moved, timed, marked_at, marked, passed, section, in_body, head_by}
 use Rattle.heard.specs.Agrees.{naming, Sane}
 
 -- ---- a time has 64 bits
 
-abbrev Small : Time → Type 0
-Small t = t.value ≤ 18446744073709551615
+abbrev Small : Option ℕ → Type 0
+Small None = Unit
+Small (Some t) = t ≤ 18446744073709551615
 
-small_by : (t : Time) (digit : ℕ) → Small (time_by t digit)
+small_by : (t : ℕ) (digit : ℕ) → Small (time_by t digit)
 unfolding time_by
 small_by t digit =
-    by_test Small (ltb (t.value * 10 + digit) 18446744073709551616)
-    (λ e. let h = ltb-true (t.value * 10 + digit) 18446744073709551616 e in omega arith)
-    (λ e. omega arith)
+    by_test Small (ltb (t * 10 + digit) 18446744073709551616)
+    (λ e. let h = ltb-true (t * 10 + digit) 18446744073709551616 e in omega arith)
+    (λ e. tt)
 
-small_on : (t : Time) (b : ℕ) → Small (time_on t b)
+small_on : (t : Option ℕ) (b : ℕ) → Small (time_on t b)
 unfolding time_on
-small_on t b = either Small (ltb b 48) (omega arith) (either Small (ltb 57 b) (omega arith) (small_by t (b - 48)))
+small_on None b = tt
+small_on (Some t) b = either Small (ltb b 48) tt (either Small (ltb 57 b) tt (small_by t (b - 48)))
 
-small_from : (w : Word) (t : Time) → Small t → Small (time_from t w)
+small_from : (w : Word) (t : Option ℕ) → Small t → Small (time_from t w)
 unfolding time_from
 small_from [] t h = h
 small_from (b ∷ s) t h = small_from s (time_on t b) (small_on t b)
 
 small_time : (w : Word) → Small (time_of w)
 unfolding time_of
-small_time w = small_from w (record { value = 0; fine = ltb 0 (length w) }) (omega arith)
+small_time w = small_from w (cond (ltb 0 (length w)) (Some 0) None) (either Small (ltb 0 (length w)) (omega arith) tt)
 
 -- ---- the marks
 
@@ -60,13 +62,16 @@ sane_moved h t s small e =
       small = small;
     }
 
+sane_at : (h : Head) (t : Option ℕ) (over : Bool) → Sane h → Small t → Sane (marked_at h t over)
+unfolding timed
+sane_at h None over s small = goes h (Refused 14) s
+sane_at h (Some t) over s small =
+    either Sane over (goes h (Refused 17) s)
+    (by_test Sane (h.begun && ltb t h.mark) (λ e. goes h (Refused 16) s) (sane_moved h t s small))
+
 sane_marked : (h : Head) (w : Word) (over : Bool) → Sane h → Sane (marked h w over)
-unfolding marked timed
-sane_marked h w over s =
-    either Sane (time_of w).fine
-    (either Sane over (goes h (Refused 17) s)
-    (by_test Sane (h.begun && ltb (time_of w).value h.mark) (λ e. goes h (Refused 16) s) (sane_moved h (time_of w).value s (small_time w))))
-    (goes h (Refused 14) s)
+unfolding marked
+sane_marked h w over s = sane_at h (time_of w) over s (small_time w)
 
 sane_apply : (h : Head) (d : Digits) (id : Word) (over : Bool) (table : List Entry) → Sane h → Sane (apply h d id over table)
 unfolding apply changed
@@ -148,10 +153,14 @@ module _ (h : Head) (w : Word) (over : Bool) (table : List Entry) (plain : Plain
       let c = changes_on (change h.values h.unknown false true) d id over table in
       either Plain (c.found && c.fine) refl refl
 
+  plain_at : (t : Option ℕ) → Plain (marked_at h t over)
+  unfolding timed moved naming
+  plain_at None = refl
+  plain_at (Some t) = either Plain over refl (either Plain (h.begun && ltb t h.mark) refl plain)
+
   plain_marked : (digits : Word) → Plain (marked h digits over)
-  unfolding marked timed moved naming
-  plain_marked digits =
-      either Plain (time_of digits).fine (either Plain over refl (either Plain (h.begun && ltb (time_of digits).value h.mark) refl plain)) refl
+  unfolding marked
+  plain_marked digits = plain_at (time_of digits)
 
   plain_body : Plain (in_body h w over table)
   unfolding in_body section naming

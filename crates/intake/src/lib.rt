@@ -4,7 +4,7 @@
 ghost use Rattle.std.specs.Prelude.{◌≡◌, length, drop};
 ghost use Rattle.grammar.specs.Grammar.{go_to};
 ghost use Rattle.grammar.specs.Reading.{later, begins};
-ghost use Rattle.intake.specs.Machine.{holds, opened_of, unfit_of, kept_of, pool_kept, entered_of, noted_of, listed_of, pool_of, fresh, reader, grown_of, room_of, machine, step_of, closed_of, with_word, white_of, byte_of, waits, busy, scan, scan_of};
+ghost use Rattle.intake.specs.Machine.{holds, opened_of, unfit_of, kept_of, pool_kept, entered_of, noted_of, listed_of, pool_of, fresh, grown_of, room_of, machine, step_of, closed_of, with_word, white_of, byte_of, waits, busy, scan, scan_of};
 ghost use Rattle.intake.specs.Answers.{record_of, with_head, tell_of, next_tick, body_end, cut_off, last_of, idle_of, waiting_of, answer_of, start_of, next, next_of, end_of};
 
 use grammar::{Head, Phase};
@@ -58,50 +58,45 @@ pub struct Told {
 // ---- the table
 
 // Whether an identifier of so many bytes fits the pool.
+#[tactic(auto, unfolding(crate::specs::Machine::holds))]
 fn holds(used: usize, len: usize, over: bool, pool: usize) -> bool
     ensures { result ≡ holds used len over pool }
 {
-    if over {
-        return false;
-    }
-    if pool < used {
-        return false;
-    }
-    if pool - used < len {
-        return false;
-    }
-    true
+    !over && used <= pool && len <= pool - used
 }
 
 fn opened(table: Table, tail: usize) -> Table
     ensures { result ≡ opened_of table tail }
 {
-    let mut t = table;
-    t.tail = tail;
-    t.fits = true;
-    t
+    Table {
+        tail,
+        fits: true,
+        ..table
+    }
 }
 
 fn unfit(table: Table) -> Table
     ensures { result ≡ unfit_of table }
 {
-    let mut t = table;
-    t.fits = false;
-    t
+    Table {
+        fits: false,
+        ..table
+    }
 }
 
 // An identifier into the pool, where it fits.
+#[tactic(auto, unfolding(crate::specs::Machine::kept_of, crate::specs::Machine::pool_kept), using(crate::proofs::Fit::holds_fits))]
 fn kept(table: Table, word: &[u8], over: bool, pool: &mut [u8]) -> Table
     ensures { (result ≡ kept_of table word.now over pool.old) × (pool.new ≡ pool_kept table word.now over pool.old) }
 {
-    let used = table.used;
-    if holds(used, word.len(), over, pool.len()) {
-        let tail = line::text(pool, used, word);
+    if holds(table.used, word.len(), over, pool.len()) {
+        let tail = line::text(pool, table.used, word);
         return opened(table, tail);
     }
     unfit(table)
 }
 
+#[tactic(auto, unfolding(crate::specs::Machine::entered_of))]
 fn entered(table: Table, which: u8) -> Table
     ensures { result ≡ entered_of table which }
 {
@@ -117,6 +112,7 @@ fn entered(table: Table, which: u8) -> Table
     table
 }
 
+#[tactic(auto, unfolding(crate::specs::Machine::noted_of, line::specs::Text::ascii))]
 fn noted(table: Table, word: &[u8], size: u8, which: u8) -> Table
     ensures { result ≡ noted_of table word.now size which }
 {
@@ -130,58 +126,32 @@ fn noted(table: Table, word: &[u8], size: u8, which: u8) -> Table
 }
 
 // The table after a word.
+#[tactic(auto, unfolding(crate::specs::Machine::listed_of, crate::specs::Machine::pool_of))]
 fn listed(phase: Phase, table: Table, word: &[u8], over: bool, pool: &mut [u8]) -> Table
     ensures { (result ≡ listed_of phase table word.now over pool.old) × (pool.new ≡ pool_of phase table word.now over pool.old) }
 {
     match phase {
-        Phase::Heading => table,
-        Phase::Skipping => table,
-        Phase::Kind => table,
-        Phase::Size => table,
         Phase::Identifier(_) => kept(table, word, over, pool),
-        Phase::Name(_) => table,
         Phase::Closing(size, which) => noted(table, word, size, which),
-        Phase::Ending => table,
-        Phase::Declared => table,
-        Phase::Body => table,
-        Phase::Aside => table,
-        Phase::Valued(_) => table,
-        Phase::Done => table,
-        Phase::Refused(_) => table,
+        _ => table,
     }
 }
 
 // ---- a byte
 
 // A word with which an item begins comes next.
+#[tactic(auto, unfolding(grammar::specs::Reading::begins))]
 fn begins(phase: Phase) -> bool
     ensures { result ≡ begins phase }
 {
-    match phase {
-        Phase::Heading => true,
-        Phase::Skipping => false,
-        Phase::Kind => false,
-        Phase::Size => false,
-        Phase::Identifier(_) => false,
-        Phase::Name(_) => false,
-        Phase::Closing(_, _) => false,
-        Phase::Ending => false,
-        Phase::Declared => false,
-        Phase::Body => true,
-        Phase::Aside => false,
-        Phase::Valued(_) => false,
-        Phase::Done => false,
-        Phase::Refused(_) => false,
-    }
+    matches!(phase, Phase::Heading | Phase::Body)
 }
 
+#[tactic(auto, unfolding(grammar::specs::Reading::later))]
 fn later(place: u64) -> u64
     ensures { result ≡ later place }
 {
-    if place < 18446744073709551615 {
-        return place + 1;
-    }
-    place
+    place.saturating_add(1)
 }
 
 fn fresh(at: u64, item: u64) -> Word
@@ -197,55 +167,45 @@ fn fresh(at: u64, item: u64) -> Word
 }
 
 // A byte of a word.
+#[tactic(auto, unfolding(crate::specs::Machine::grown_of, crate::specs::Machine::room_of))]
 fn grown(w: Word, b: u8, room: &mut [u8]) -> Word
     ensures { (result ≡ grown_of w (length room.old)) × (room.new ≡ room_of w b room.old) }
 {
-    let len = w.len;
-    if len < room.len() {
-        room[len] = b;
+    if w.len < room.len() {
+        room[w.len] = b;
         return Word {
-            len: len + 1,
-            over: w.over,
-            start: w.start,
+            len: w.len + 1,
             at: later(w.at),
-            item: w.item,
+            ..w
         };
     }
     Word {
-        len,
         over: true,
-        start: w.start,
         at: later(w.at),
-        item: w.item,
-    }
-}
-
-fn made(head: Head, table: Table, word: Word, ended: bool) -> Reader
-    ensures { result ≡ reader head table word ended }
-{
-    Reader {
-        head,
-        table,
-        word,
-        ended,
+        ..w
     }
 }
 
 // The word is over, and is read.
+#[tactic(auto, unfolding(crate::specs::Machine::step_of, laws::specs::Pick::pick))]
 fn step(r: Reader, room: &[u8], pool: &mut [u8]) -> Reader
     ensures { machine result room.now pool.new ≡ step_of (machine r room.now pool.old) }
 {
     let w = r.word;
-    let h = r.head;
-    let t = r.table;
-    let phase = h.phase;
+    let phase = r.head.phase;
     let word = phrase::part(room, 0, w.len);
-    let head = phrase::read(h, word, w.over, t, pool);
-    let table = listed(phase, t, word, w.over, pool);
-    let item = phrase::pick64(begins(phase), w.start, w.item);
-    made(head, table, fresh(w.at, item), r.ended)
+    let head = phrase::read(r.head, word, w.over, r.table, pool);
+    let table = listed(phase, r.table, word, w.over, pool);
+    let item = laws::pick(begins(phase), w.start, w.item);
+    Reader {
+        head,
+        table,
+        word: fresh(w.at, item),
+        ..r
+    }
 }
 
+#[tactic(auto, unfolding(crate::specs::Machine::closed_of))]
 fn closed(r: Reader, room: &[u8], pool: &mut [u8]) -> Reader
     ensures { machine result room.now pool.new ≡ closed_of (machine r room.now pool.old) }
 {
@@ -258,26 +218,24 @@ fn closed(r: Reader, room: &[u8], pool: &mut [u8]) -> Reader
 fn with_word(r: Reader, word: Word) -> Reader
     ensures { result ≡ with_word r word }
 {
-    let head = r.head;
-    let table = r.table;
-    made(head, table, word, r.ended)
+    Reader { word, ..r }
 }
 
 // What ends a word, or stands between two.
+#[tactic(auto, unfolding(crate::specs::Machine::white_of))]
 fn white(r: Reader, room: &[u8], pool: &mut [u8]) -> Reader
     ensures { machine result room.now pool.new ≡ white_of (machine r room.now pool.old) }
 {
     let c = closed(r, room, pool);
-    let w = c.word;
-    with_word(c, fresh(later(w.at), w.item))
+    with_word(c, fresh(later(c.word.at), c.word.item))
 }
 
+#[tactic(auto, unfolding(crate::specs::Machine::byte_of, crate::specs::Machine::black_of))]
 fn byte(r: Reader, b: u8, room: &mut [u8], pool: &mut [u8]) -> Reader
     ensures { machine result room.new pool.new ≡ byte_of (machine r room.old pool.old) b }
 {
     if 32 < b {
-        let w = r.word;
-        return with_word(r, grown(w, b, room));
+        return with_word(r, grown(r.word, b, room));
     }
     white(r, room, pool)
 }
@@ -285,34 +243,18 @@ fn byte(r: Reader, b: u8, room: &mut [u8], pool: &mut [u8]) -> Reader
 // ---- a part
 
 // Something is to be told before the next byte is read.
+#[tactic(auto, unfolding(crate::specs::Machine::waits))]
 fn waits(phase: Phase) -> bool
     ensures { result ≡ waits phase }
 {
-    match phase {
-        Phase::Heading => false,
-        Phase::Skipping => false,
-        Phase::Kind => false,
-        Phase::Size => false,
-        Phase::Identifier(_) => false,
-        Phase::Name(_) => false,
-        Phase::Closing(_, _) => false,
-        Phase::Ending => false,
-        Phase::Declared => true,
-        Phase::Body => false,
-        Phase::Aside => false,
-        Phase::Valued(_) => false,
-        Phase::Done => true,
-        Phase::Refused(_) => true,
-    }
+    matches!(phase, Phase::Declared | Phase::Done | Phase::Refused(_))
 }
 
+#[tactic(auto, unfolding(crate::specs::Machine::busy))]
 fn busy(r: Reader) -> bool
     ensures { result ≡ busy r }
 {
-    let head = r.head;
-    let phase = head.phase;
-    let wait = waits(phase);
-    r.ended | (head.time < head.mark) | wait
+    r.ended | (r.head.time < r.head.mark) | waits(r.head.phase)
 }
 
 #[derive(Clone, Copy)]
@@ -326,16 +268,14 @@ fn scan(reader: Reader, text: &[u8], from: usize, room: &mut [u8], pool: &mut [u
     ensures { scan (machine result.reader room.new pool.new) result.at ≡ scan_of (machine reader room.old pool.old) (drop from text.now) from }
 {
     let mut r = reader;
-    let mut i = from;
-    while i < text.len() {
+    for i in from..text.len() {
         if busy(r) {
             return Scanned { reader: r, at: i };
         }
-        let next = i + 1;
-        r = byte(r, text[i], &mut *room, &mut *pool);
-        i = next;
+        r = byte(r, text[i], room, pool);
     }
-    Scanned { reader: r, at: i }
+    let at = from.max(text.len());
+    Scanned { reader: r, at }
 }
 
 // ---- answers
@@ -355,21 +295,16 @@ fn record_of(h: Head) -> Record
 fn with_head(r: Reader, head: Head) -> Reader
     ensures { result ≡ with_head r head }
 {
-    let table = r.table;
-    let word = r.word;
-    made(head, table, word, r.ended)
+    Reader { head, ..r }
 }
 
 fn tell(said: Said, r: Reader, head: Head, at: usize) -> Told
     ensures { result ≡ tell_of said r head at }
 {
-    let h = r.head;
-    let tick = record_of(h);
-    let reader = with_head(r, head);
     Told {
         said,
-        tick,
-        reader,
+        tick: record_of(r.head),
+        reader: with_head(r, head),
         at,
     }
 }
@@ -377,132 +312,92 @@ fn tell(said: Said, r: Reader, head: Head, at: usize) -> Told
 fn next_tick(head: Head) -> Head
     ensures { result ≡ next_tick head }
 {
-    let mut h = head;
-    h.time = later(head.time);
-    h
+    Head {
+        time: later(head.time),
+        ..head
+    }
 }
 
 // At the end of the file, between two items.
+#[tactic(auto, unfolding(crate::specs::Answers::body_end, laws::specs::Pick::pick))]
 fn body_end(r: Reader, at: usize) -> Told
     ensures { result ≡ body_end r at }
 {
-    let head = r.head;
-    let done = phrase::go_to(head, Phase::Done);
-    if head.begun {
-        return tell(Said::Tick, r, done, at);
-    }
-    tell(Said::End, r, done, at)
+    let said = laws::pick(r.head.begun, Said::Tick, Said::End);
+    tell(said, r, phrase::go_to(r.head, Phase::Done), at)
 }
 
 // At the end of the file, in an item, or where one is missing.
+#[tactic(auto, unfolding(crate::specs::Answers::cut_off))]
 fn cut_off(r: Reader, place: u64, at: usize) -> Told
     ensures { result ≡ cut_off r place at }
 {
-    let head = r.head;
-    tell(
-        Said::Refused(14, place),
-        r,
-        phrase::go_to(head, Phase::Done),
-        at,
-    )
+    let done = phrase::go_to(r.head, Phase::Done);
+    tell(Said::Refused(14, place), r, done, at)
 }
 
+#[tactic(auto, unfolding(crate::specs::Answers::last_of))]
 fn last(r: Reader, at: usize) -> Told
     ensures { result ≡ last_of r.head.phase r at }
 {
-    let head = r.head;
-    let phase = head.phase;
-    let word = r.word;
-    match phase {
-        Phase::Heading => cut_off(r, word.at, at),
-        Phase::Skipping => cut_off(r, word.item, at),
-        Phase::Kind => cut_off(r, word.item, at),
-        Phase::Size => cut_off(r, word.item, at),
-        Phase::Identifier(_) => cut_off(r, word.item, at),
-        Phase::Name(_) => cut_off(r, word.item, at),
-        Phase::Closing(_, _) => cut_off(r, word.item, at),
-        Phase::Ending => cut_off(r, word.item, at),
-        Phase::Declared => cut_off(r, word.item, at),
+    match r.head.phase {
+        Phase::Heading => cut_off(r, r.word.at, at),
         Phase::Body => body_end(r, at),
-        Phase::Aside => cut_off(r, word.item, at),
-        Phase::Valued(_) => cut_off(r, word.item, at),
-        Phase::Done => cut_off(r, word.item, at),
-        Phase::Refused(_) => cut_off(r, word.item, at),
+        _ => cut_off(r, r.word.item, at),
     }
 }
 
+#[tactic(auto, unfolding(crate::specs::Answers::idle_of))]
 fn idle(r: Reader, at: usize) -> Told
     ensures { result ≡ idle_of r at }
 {
     if r.ended {
         return last(r, at);
     }
-    let head = r.head;
-    tell(Said::More, r, head, at)
+    tell(Said::More, r, r.head, at)
 }
 
 // How many of the eight are declared.
 fn signals(r: Reader, at: usize) -> Told
     ensures { result ≡ tell_of (Said.Signals r.head.signals) r (go_to r.head Phase.Body) at }
 {
-    let head = r.head;
-    tell(
-        Said::Signals(head.signals),
-        r,
-        phrase::go_to(head, Phase::Body),
-        at,
-    )
+    let body = phrase::go_to(r.head, Phase::Body);
+    tell(Said::Signals(r.head.signals), r, body, at)
 }
 
 // A fault at the place of its item.
 fn refused(r: Reader, number: u8, at: usize) -> Told
     ensures { result ≡ tell_of (Said.Refused number r.word.item) r (go_to r.head Phase.Done) at }
 {
-    let head = r.head;
-    let word = r.word;
-    tell(
-        Said::Refused(number, word.item),
-        r,
-        phrase::go_to(head, Phase::Done),
-        at,
-    )
+    let done = phrase::go_to(r.head, Phase::Done);
+    tell(Said::Refused(number, r.word.item), r, done, at)
 }
 
+#[tactic(auto, unfolding(crate::specs::Answers::waiting_of))]
 fn waiting(r: Reader, at: usize) -> Told
     ensures { result ≡ waiting_of r.head.phase r at }
 {
-    let head = r.head;
-    let phase = head.phase;
-    match phase {
-        Phase::Heading => idle(r, at),
-        Phase::Skipping => idle(r, at),
-        Phase::Kind => idle(r, at),
-        Phase::Size => idle(r, at),
-        Phase::Identifier(_) => idle(r, at),
-        Phase::Name(_) => idle(r, at),
-        Phase::Closing(_, _) => idle(r, at),
-        Phase::Ending => idle(r, at),
+    match r.head.phase {
         Phase::Declared => signals(r, at),
-        Phase::Body => idle(r, at),
-        Phase::Aside => idle(r, at),
-        Phase::Valued(_) => idle(r, at),
-        Phase::Done => tell(Said::End, r, head, at),
+        Phase::Done => tell(Said::End, r, r.head, at),
         Phase::Refused(number) => refused(r, number, at),
+        _ => idle(r, at),
     }
 }
 
+#[tactic(auto, unfolding(crate::specs::Answers::answer_of))]
 fn answer(r: Reader, at: usize) -> Told
     ensures { result ≡ answer_of r at }
 {
-    let head = r.head;
-    if head.time < head.mark {
-        return tell(Said::Tick, r, next_tick(head), at);
+    if r.head.time < r.head.mark {
+        return tell(Said::Tick, r, next_tick(r.head), at);
     }
     waiting(r, at)
 }
 
 // ---- the calls
 
+#[tactic(auto, unfolding(crate::specs::Answers::start_of, grammar::specs::Reading::start_head))]
 pub fn start() -> Reader
     ensures { result ≡ start_of }
 {
@@ -524,35 +419,34 @@ pub fn start() -> Reader
         tail: 0,
         fits: false,
     };
-    made(head, table, fresh(0, 0), false)
+    Reader {
+        head,
+        table,
+        word: fresh(0, 0),
+        ended: false,
+    }
 }
 
 // What comes next, from a place of the part that is lent; the place from which to read on.
+#[tactic(auto, unfolding(crate::specs::Answers::next_of, crate::specs::Answers::answered))]
 pub fn next(reader: Reader, text: &[u8], from: usize, room: &mut [u8], pool: &mut [u8]) -> Told
     ensures { next result room.new pool.new ≡ next_of (machine reader room.old pool.old) text.now from }
 {
     if room.len() < 32 {
-        let head = reader.head;
-        let word = reader.word;
-        return tell(
-            Said::Refused(17, word.at),
-            reader,
-            phrase::go_to(head, Phase::Done),
-            from,
-        );
+        let done = phrase::go_to(reader.head, Phase::Done);
+        return tell(Said::Refused(17, reader.word.at), reader, done, from);
     }
     let s = scan(reader, text, from, room, pool);
-    let r = s.reader;
-    answer(r, s.at)
+    answer(s.reader, s.at)
 }
 
 // The file ends here.
+#[tactic(auto, unfolding(crate::specs::Answers::end_of))]
 pub fn end(reader: Reader, room: &[u8], pool: &mut [u8]) -> Reader
     ensures { machine result room.now pool.new ≡ end_of (machine reader room.now pool.old) }
 {
-    let c = closed(reader, room, pool);
-    let head = c.head;
-    let table = c.table;
-    let word = c.word;
-    made(head, table, word, true)
+    Reader {
+        ended: true,
+        ..closed(reader, room, pool)
+    }
 }

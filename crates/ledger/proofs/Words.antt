@@ -1,35 +1,16 @@
--- A reason's word by its number, and a line from its parts. Assumes nothing.
+-- The last reason's word, and a line from its parts. Assumes nothing.
 use Prim.Native.Nat.{ℕ, ◌/◌}
 use mathlib.Core.Path.{◌≡◌, sym, ◌∙◌}
 use mathlib.Core.Bool.{Bool, true, false, ◌||◌}
 use mathlib.Core.List.{[], ◌∷◌, ◌++◌}
-use borrow.Author.Tests.{eq-eqb, ne_eqb}
+use borrow.Author.Tests.{ne_eqb}
 use Rattle.access.specs.declared.Read.{Read}
 use Rattle.access.specs.declared.Reads.{Reads}
 use Rattle.line.specs.Text.{ascii, text_of}
 use Rattle.ledger.specs.Text.{hex_of, address_of, named, word_of, end_of, read_of, line_of}
 
+-- the last word, by no number before it
 module _ {r : ℕ} where
-  pub word1 : r ≡ 1 → word_of r ≡ ascii "pointer "
-  unfolding word_of
-  word1 e = simp (eq-eqb r 1 e)
-
-  pub word2 : (r ≡ 1 → ⊥) → r ≡ 2 → word_of r ≡ ascii "sprite "
-  unfolding word_of
-  word2 a e = simp (ne_eqb r 1 a, eq-eqb r 2 e)
-
-  pub word3 : (r ≡ 1 → ⊥) → (r ≡ 2 → ⊥) → r ≡ 3 → word_of r ≡ ascii "matrix "
-  unfolding word_of
-  word3 a b e = simp (ne_eqb r 1 a, ne_eqb r 2 b, eq-eqb r 3 e)
-
-  pub word4 : (r ≡ 1 → ⊥) → (r ≡ 2 → ⊥) → (r ≡ 3 → ⊥) → r ≡ 4 → word_of r ≡ ascii "graphics "
-  unfolding word_of
-  word4 a b d e = simp (ne_eqb r 1 a, ne_eqb r 2 b, ne_eqb r 3 d, eq-eqb r 4 e)
-
-  pub word5 : (r ≡ 1 → ⊥) → (r ≡ 2 → ⊥) → (r ≡ 3 → ⊥) → (r ≡ 4 → ⊥) → r ≡ 5 → word_of r ≡ ascii "idle "
-  unfolding word_of
-  word5 a b d f e = simp (ne_eqb r 1 a, ne_eqb r 2 b, ne_eqb r 3 d, ne_eqb r 4 f, eq-eqb r 5 e)
-
   pub word6 : (r ≡ 1 → ⊥) → (r ≡ 2 → ⊥) → (r ≡ 3 → ⊥) → (r ≡ 4 → ⊥) → (r ≡ 5 → ⊥) → word_of r ≡ ascii "refresh "
   unfolding word_of
   word6 a b d f e = simp (ne_eqb r 1 a, ne_eqb r 2 b, ne_eqb r 3 d, ne_eqb r 4 f, ne_eqb r 5 e)

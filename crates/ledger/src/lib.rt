@@ -8,14 +8,11 @@ ghost use Rattle.ledger.specs.Text.{hex_of, address_of, named, word_of, end_of, 
 use access::{Read, Reads};
 
 // A number's last hexadecimal digit.
+#[tactic(auto, unfolding(crate::specs::Text::hex_of))]
 fn hex(n: u16) -> u8
     ensures { result ≡ hex_of n }
 {
-    let last = (n % 16) as u8;
-    if last < 10 {
-        return 48 + last;
-    }
-    55 + last
+    b"0123456789ABCDEF"[usize::from(n % 16)]
 }
 
 // What stands before a read, or ends the line.
@@ -29,6 +26,7 @@ fn end(more: bool) -> u8
 }
 
 // Whether a number is a reason's.
+#[tactic(auto, unfolding(crate::specs::Text::named))]
 fn is_named(reason: u8) -> bool
     ensures { result ≡ named reason }
 {
@@ -42,11 +40,11 @@ fn address(out: &mut [u8], at: usize, n: u16, end: u8) -> usize
     requires { at + 5 ≤ length out.old }
     ensures { (result ≡ at + 5) × Written out.old at (address_of n end) out.new result }
 {
-    let a = line::byte(&mut *out, at, hex(n / 4096));
-    let b = line::byte(&mut *out, a, hex(n / 256));
-    let c = line::byte(&mut *out, b, hex(n / 16));
-    let d = line::byte(&mut *out, c, hex(n));
-    line::byte(&mut *out, d, end)
+    line::text(
+        out,
+        at,
+        &[hex(n / 4096), hex(n / 256), hex(n / 16), hex(n), end],
+    )
 }
 
 // A reason's word and a space.
@@ -54,22 +52,14 @@ fn word(out: &mut [u8], at: usize, reason: u8) -> usize
     requires { at + 9 ≤ length out.old }
     ensures { (result ≤ at + 9) × Written out.old at (word_of reason) out.new result }
 {
-    if reason == 1 {
-        return line::text(&mut *out, at, b"pointer ");
+    match reason {
+        1 => line::text(out, at, b"pointer "),
+        2 => line::text(out, at, b"sprite "),
+        3 => line::text(out, at, b"matrix "),
+        4 => line::text(out, at, b"graphics "),
+        5 => line::text(out, at, b"idle "),
+        _ => line::text(out, at, b"refresh "),
     }
-    if reason == 2 {
-        return line::text(&mut *out, at, b"sprite ");
-    }
-    if reason == 3 {
-        return line::text(&mut *out, at, b"matrix ");
-    }
-    if reason == 4 {
-        return line::text(&mut *out, at, b"graphics ");
-    }
-    if reason == 5 {
-        return line::text(&mut *out, at, b"idle ");
-    }
-    line::text(&mut *out, at, b"refresh ")
 }
 
 // A read; where the number is no reason's, nothing.
@@ -77,10 +67,9 @@ fn read(out: &mut [u8], at: usize, r: Read, end: u8) -> usize
     requires { at + 14 ≤ length out.old }
     ensures { (result ≤ at + 14) × Written out.old at (read_of r end) out.new result }
 {
-    let told = is_named(r.reason);
-    if told {
-        let a = word(&mut *out, at, r.reason);
-        return address(&mut *out, a, r.address, end);
+    if is_named(r.reason) {
+        let a = word(out, at, r.reason);
+        return address(out, a, r.address, end);
     }
     at
 }
@@ -90,15 +79,13 @@ pub fn line(out: &mut [u8], at: usize, cycle: u16, raster: u16, lost: u16, reads
     requires { at + 46 ≤ length out.old }
     ensures { (result ≤ at + 46) × Written out.old at (line_of cycle raster lost reads) out.new result }
 {
-    let first = reads.first;
-    let second = reads.second;
-    let one = is_named(first.reason);
-    let two = is_named(second.reason);
+    let one = is_named(reads.first.reason);
+    let two = is_named(reads.second.reason);
     let any = end(one | two);
     let another = end(two);
-    let a = line::put(&mut *out, at, cycle, b' ');
-    let b = line::put(&mut *out, a, raster, b' ');
-    let c = line::put(&mut *out, b, lost, any);
-    let d = read(&mut *out, c, first, another);
-    read(&mut *out, d, second, b'\n')
+    let a = line::put(out, at, cycle, b' ');
+    let b = line::put(out, a, raster, b' ');
+    let c = line::put(out, b, lost, any);
+    let d = read(out, c, reads.first, another);
+    read(out, d, reads.second, b'\n')
 }

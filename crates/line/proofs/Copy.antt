@@ -1,31 +1,17 @@
--- A text that is written byte by byte, and a text over what stood at a place, as lists. Assumes nothing.
-use Prim.Native.Nat.{ℕ, ◌+◌, ◌≤◌, ◌<◌}
-use mathlib.Core.Path.{◌≡◌, refl, sym, ◌∙◌, ap, subst}
-use mathlib.Core.List.{List, [], ◌∷◌, ◌++◌}
+-- A text that is copied to a place, and a text over what stood at a place, as lists. Assumes nothing.
+use Prim.Native.Nat.{ℕ, ◌+◌, ◌-◌, ◌≤◌}
+use mathlib.Core.Path.{◌≡◌, refl, sym, ◌∙◌, ap}
+use mathlib.Core.List.{List, [], ◌∷◌, ◌++◌, append_assoc}
 use native.Mathlib.Omega.{arith}
 use native.Mathlib.Numerals.{add-one}
-use lib.ListN.{length, take, drop, set, get_or, length-append}
-use lib.Seq.{take-suc, take_all, take_at, length-take-le, sets, sets-eq}
+use borrow.Rule.Slice.PartMut.{put_mid}
+use lib.ListN.{length, take, drop, set, length-append}
+use lib.Seq.{take_at, drop-drop, length-take-le, sets, sets-eq}
 use Rattle.line.specs.Text.{Written, pasted}
-use Rattle.line.proofs.Join.{on, one, named_as}
 
 pub nothing : (out : List ℕ) (at : ℕ) → Written out at [] out at
 unfolding pasted
 nothing out at = record { place = omega arith; text = refl }
-
-pub none_yet : (out : List ℕ) (at : ℕ) → Written out at [] out (at + 0)
-unfolding pasted
-none_yet out at = record { place = refl; text = refl }
-
-module _ (out₀ words out : List ℕ) (at i : ℕ) (w : Written out₀ at (take i words) out (at + i)) where
-  pub one_more_lem : i < length words → Written out₀ at (take (i + 1) words) (set out (at + i) (get_or words i 0)) (at + (i + 1))
-  one_more_lem h =
-      let next : at + i + 1 ≡ at + (i + 1) = omega arith in
-      named_as (ap (λ (n : ℕ). take n words) (add-one i) ∙ take-suc words i 0 h)
-      (subst (λ (r : ℕ). Written out₀ at (take i words ++ (get_or words i 0 ∷ [])) (set out (at + i) (get_or words i 0)) r) next (on w (one out (at + i) (get_or words i 0))))
-
-  pub all_there : length words ≤ i → Written out₀ at words out (at + i)
-  all_there h = named_as (sym (take_all i words h)) w
 
 -- the stores, as lists
 stores : (text out : List ℕ) (at : ℕ) → pasted out at text ≡ sets out at text
@@ -36,6 +22,19 @@ stores (x ∷ text) out at = stores text (set out at x) (at + 1) ∙ ap (λ (n :
 -- what stood before the place and after the text stays
 pub pasted_is : (text out : List ℕ) (at : ℕ) → at + length text ≤ length out → pasted out at text ≡ take at out ++ text ++ drop (at + length text) out
 pasted_is text out at h = stores text out at ∙ sets-eq text out at h
+
+-- a text that is copied to a place
+pub copied : (out words : List ℕ) (at : ℕ) {mid : List ℕ} → mid ≡ words → at + length words ≤ length out → Written out at words (put_mid at (at + length words - at) out mid) (at + length words)
+copied out words at is h =
+    let n : at + length words - at ≡ length words = omega arith in
+    record {
+      place = refl;
+      text =
+          ap (λ (m : List ℕ). take at out ++ (m ++ drop (at + length words - at) (drop at out))) is
+          ∙ ap (λ (k : ℕ). take at out ++ (words ++ drop k (drop at out))) n
+          ∙ ap (λ (r : List ℕ). take at out ++ (words ++ r)) (drop-drop (length words) at out)
+          ∙ sym (pasted_is words out at h ∙ append_assoc (take at out) words (drop (at + length words) out));
+    }
 
 -- the buffer up to the place after a text
 pub stands : (out text after : List ℕ) (at next : ℕ) → Written out at text after next → at + length text ≤ length out → take next after ≡ take at out ++ text

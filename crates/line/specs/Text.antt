@@ -1,5 +1,5 @@
 -- A number as the chart writes it, and where the text goes.
-use Rattle.std.specs.Prelude.{ℕ, ◌+◌, ◌/◌, ◌%◌, ◌≡◌, cond, List, [], ◌∷◌, ◌++◌, ltb, length, set}
+use Rattle.std.specs.Prelude.{ℕ, zero, suc, ◌+◌, ◌/◌, ◌%◌, ◌≡◌, cond, List, [], ◌∷◌, ◌++◌, ltb, length, set}
 use Prim.Native.Char.{code}
 use Prim.Native.String.{String}
 use Prim.Native.String as S
@@ -13,6 +13,11 @@ ascii (S.◌∷◌ c s) = code c ∷ ascii s
 -- the ASCII code of a number's last digit
 abbrev pub glyph_of : ℕ → ℕ
 glyph_of n = 48 + n % 10
+
+-- a number's digits in a base, the fewest that hold it; at most as many as the second number says, and one
+unfoldable pub digits_of : ℕ → ℕ → ℕ → List ℕ
+digits_of b zero n = (48 + n % b) ∷ []
+digits_of b (suc more) n = cond (ltb n b) ((48 + n) ∷ []) (digits_of b more (n / b) ++ ((48 + n % b) ∷ []))
 
 -- 01, chart: in decimal, with what stands after it
 unfoldable pub text_of : ℕ → ℕ → List ℕ

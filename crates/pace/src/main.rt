@@ -4,110 +4,59 @@
 // Out: the scene afterwards.
 #![tactic(auto)]
 
-ghost use Rattle.std.specs.Prelude.{◌≡◌, length, ◌≤◌};
-
 use chip::Chip;
 use streams::{STDIN_FILENO, STDOUT_FILENO};
 
-fn single(chip: Chip, memories: &[u8], bank: u8) -> Chip
-    requires { length memories.now ≡ 21504 }
-{
-    let answer = sequencer::tick(
-        chip,
-        &memories[0..16384],
-        &memories[16384..20480],
-        &memories[20480..21504],
-        bank,
-    );
-    answer.chip
+// What the host lends, cut once from the one run of bytes.
+#[derive(Clone, Copy)]
+struct Memories<'a> {
+    ram: &'a [u8],
+    rom: &'a [u8],
+    colour: &'a [u8],
 }
 
-fn one_by_one(chip: Chip, memories: &[u8], bank: u8, n: u64) -> Chip
-    requires { length memories.now ≡ 21504 }
-{
+fn cut<'a>(all: &'a [u8; 21504]) -> Memories<'a> {
+    Memories {
+        ram: &all[..16384],
+        rom: &all[16384..20480],
+        colour: &all[20480..],
+    }
+}
+
+fn single(chip: Chip, memories: Memories<'_>, bank: u8) -> Chip {
+    sequencer::tick(chip, memories.ram, memories.rom, memories.colour, bank).chip
+}
+
+fn one_by_one(chip: Chip, memories: Memories<'_>, bank: u8, n: u64) -> Chip {
     let mut at = chip;
-    let mut left = n;
-    while left > 0 {
+    for _ in 0..n {
         at = single(at, memories, bank);
-        left = left - 1;
     }
     at
 }
 
-fn together(chip: Chip, memories: &[u8], bank: u8, n: u64) -> Chip
-    requires { length memories.now ≡ 21504 }
-{
-    let answer = sequencer::ticks(
-        chip,
-        &memories[0..16384],
-        &memories[16384..20480],
-        &memories[20480..21504],
-        bank,
-        n,
-    );
-    answer.chip
+fn together(chip: Chip, memories: Memories<'_>, bank: u8, n: u64) -> Chip {
+    sequencer::ticks(chip, memories.ram, memories.rom, memories.colour, bank, n).chip
 }
 
-fn step(chip: Chip, memories: &[u8], bank: u8, apart: bool, address: u8, value: u8, n: u64) -> Chip
-    requires { length memories.now ≡ 21504 }
-{
-    let written = calls::write_register(chip, address as u16, value);
-    if apart {
-        return one_by_one(written, memories, bank, n);
-    }
-    together(written, memories, bank, n)
-}
-
-fn pair(low: u8, high: u8) -> u64 {
-    low as u64 + high as u64 * 256
-}
-
-// One step off the list; a place past its end is none.
-fn step_at(chip: Chip, memories: &[u8], bank: u8, apart: bool, steps: &[u8], place: usize) -> Chip
-    requires { length memories.now ≡ 21504 }
-{
-    let n = steps.len();
-    if n < 4 {
-        return chip;
-    }
-    if n - 4 < place {
-        return chip;
-    }
-    let count = pair(steps[place + 2], steps[place + 3]);
-    step(
-        chip,
-        memories,
-        bank,
-        apart,
-        steps[place],
-        steps[place + 1],
-        count,
-    )
-}
-
-fn turn(chip: Chip, memories: &[u8], bank: u8, apart: bool, steps: &[u8]) -> Chip
-    requires fact_1 { length memories.now ≡ 21504 }
-    requires fact_2 { length steps.now ≤ 16384 }
+// One turn through the steps; bytes at their end that are no whole step are passed over.
+fn turn<F: Fn(Chip, u64) -> Chip>(chip: Chip, go: &F, steps: &[u8]) -> Chip
+    requires { F.IsAlwaysCallable go.now }
 {
     let mut at = chip;
-    let mut place = 0usize;
-    let end = steps.len();
-    while place < end {
-        at = step_at(at, memories, bank, apart, steps, place);
-        place = place + 4;
+    for step in steps.chunks_exact(4) {
+        let written = calls::write_register(at, u16::from(step[0]), step[1]);
+        at = go(written, u64::from(u16::from_le_bytes([step[2], step[3]])));
     }
     at
 }
 
-fn turns(chip: Chip, memories: &[u8], bank: u8, apart: bool, steps: &[u8], n: u64) -> Chip
-    requires fact_1 { length memories.now ≡ 21504 }
-    requires fact_2 { length steps.now ≤ 16384 }
+fn turns<F: Fn(Chip, u64) -> Chip>(chip: Chip, go: &F, steps: &[u8], n: u64) -> Chip
+    requires { F.IsAlwaysCallable go.now }
 {
     let mut at = chip;
-    let mut left = n;
-    while left > 0 {
-        at = turn(at, memories, bank, apart, steps);
-        left = left - 1;
+    for _ in 0..n {
+        at = turn(at, go, steps);
     }
     at
 }
@@ -118,31 +67,31 @@ fn tell(chip: Chip) {
     io::write_all(STDOUT_FILENO, &body);
 }
 
-fn four(a: u8, b: u8, c: u8, d: u8) -> u64 {
-    a as u64 + b as u64 * 256 + c as u64 * 65536 + d as u64 * 16777216
-}
-
-fn pace(body: &[u8], head: [u8; 6], steps: &[u8], memories: &[u8])
-    requires { (length memories.now ≡ 21504) × (length steps.now ≤ 16384) }
-{
-    let decoded = scene::decode_newest(body);
-    let scene = decoded.scene;
-    if !scene {
+fn pace(body: &[u8], head: [u8; 6], steps: &[u8], memories: Memories<'_>) {
+    let Some(chip) = scene::decode_newest(body) else {
         return;
+    };
+    let [bank, apart, a, b, c, d] = head;
+    let n = u64::from(u32::from_le_bytes([a, b, c, d]));
+    if apart == 1 {
+        tell(turns(
+            chip,
+            &|at, count| one_by_one(at, memories, bank, count),
+            steps,
+            n,
+        ));
+    } else {
+        tell(turns(
+            chip,
+            &|at, count| together(at, memories, bank, count),
+            steps,
+            n,
+        ));
     }
-    let chip = decoded.chip;
-    let n = four(head[2], head[3], head[4], head[5]);
-    tell(turns(chip, memories, head[0], head[1] == 1, steps, n));
-}
-
-fn space() -> [u8; 21504]
-    ensures { 21504 ≡ length result }
-{
-    [0; 21504]
 }
 
 fn main() {
-    let mut memories = space();
+    let mut memories = [0u8; 21504];
     let mut body = [0u8; 311];
     let mut head = [0u8; 6];
     let mut steps = [0u8; 16384];
@@ -150,17 +99,7 @@ fn main() {
     let read = io::read_full(STDIN_FILENO, &mut body);
     let told = io::read_full(STDIN_FILENO, &mut head);
     let n = io::read_full(STDIN_FILENO, &mut steps);
-    if lent != 21504 {
-        return;
+    if lent == 21504 && read == 311 && told == 6 && n <= 16384 {
+        pace(&body, head, &steps[..n], cut(&memories));
     }
-    if read != 311 {
-        return;
-    }
-    if told != 6 {
-        return;
-    }
-    if 16384 < n {
-        return;
-    }
-    pace(&body, head, &steps[..n], &memories);
 }

@@ -1,31 +1,18 @@
--- The entries of a table one after the other, as a loop takes them; the first byte of a word, and the others. Assumes nothing.
+-- The entries of a table one after the other, as a loop takes them. Assumes nothing.
 use Prim.Native.Nat.{ℕ, zero, suc, ◌+◌, ◌-◌, ◌≤◌, ◌<◌}
-use mathlib.Core.Path.{◌≡◌, refl, sym, ◌∙◌, ap}
+use mathlib.Core.Path.{◌≡◌, refl, ap}
 use mathlib.Core.Bool.{Bool, true, false, ◌&&◌, not, cond}
-use mathlib.Core.List.{List, [], ◌∷◌}
+use mathlib.Core.List.{List}
 use native.Mathlib.Omega.{arith}
 use lib.Dec.{ltb}
-use lib.ListN.{length, take, drop, get_or, length-drop}
-use lib.Seq.{take_all}
-use borrow.Author.Tests.{ltb-true, le-ltb}
+use lib.ListN.{length, get_or}
+use borrow.Author.Tests.{ltb-true}
 use Rattle.grammar.specs.declared.Change.{Change}
 use Rattle.grammar.specs.declared.Digits.{Digits}
 use Rattle.grammar.specs.Words.{Word, same}
 use Rattle.grammar.specs.Grammar.{entry_on, changes_on, Entry}
 use Rattle.phrase.specs.declared.Table.{Table}
 use Rattle.phrase.specs.Table.{part_of, least_of, entries_from, table_of}
-
-pub empty : (w : List ℕ) → length w < 1 → w ≡ []
-empty [] h = refl
-empty (x ∷ s) h = absurd (omega arith)
-
-pub all_but_one : (w : List ℕ) → take (length w - 1) (drop 1 w) ≡ drop 1 w
-all_but_one w = take_all (length w - 1) (drop 1 w) (simp length-drop (omega arith))
-
-pub part_one : (w : List ℕ) → part_of w 0 1 ≡ take 1 w
-unfolding part_of
-part_one [] = refl
-part_one (x ∷ s) = simp (le-ltb (length (x ∷ s)) 1 (omega arith))
 
 least_by : (a b : ℕ) (t : Bool) → ltb a b ≡ t → cond t a b ≤ b
 least_by a b true e = omega (arith, ltb-true a b e)

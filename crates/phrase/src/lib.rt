@@ -2,7 +2,6 @@
 #![tactic(auto)]
 
 ghost use Rattle.std.specs.Prelude.{◌≡◌, Bool, ◌<◌, ◌≤◌, take, drop, get_or};
-ghost use Rattle.laws.specs.Pick.{pick};
 ghost use Rattle.grammar.specs.Signals.{which_of};
 ghost use Rattle.grammar.specs.Grammar.{go_to, in_heading, until_end, within, ours, fate, more_signals, declare, judged, closing, set_on, entry_on, changes_on, changed, apply, moved, timed, marked, passed, section, in_body, head_by};
 ghost use Rattle.phrase.specs.Table.{part_of, least_of, table_of};
@@ -23,49 +22,36 @@ pub struct Table {
 
 // ---- parts
 
+#[tactic(auto, unfolding(crate::specs::Table::part_of))]
 pub fn part(s: &[u8], from: usize, to: usize) -> &[u8]
     ensures { result.now ≡ part_of s.now from to }
 {
-    if to < from {
-        return &s[..0];
-    }
-    if s.len() < to {
-        return &s[..0];
-    }
-    &s[from..to]
+    s.get(from..to).unwrap_or(&[])
 }
 
 fn first(word: &[u8]) -> u8
     ensures { result ≡ get_or word.now 0 0 }
 {
-    if word.len() < 1 {
-        return 0;
-    }
-    word[0]
+    word.first().copied().unwrap_or(0)
 }
 
 fn rest(word: &[u8]) -> &[u8]
     ensures { result.now ≡ drop 1 word.now }
 {
-    if word.len() < 1 {
-        return &word[..0];
-    }
-    &word[1..]
+    word.get(1..).unwrap_or(&[])
 }
 
 fn one(word: &[u8]) -> &[u8]
     ensures { result.now ≡ take 1 word.now }
 {
-    part(word, 0, 1)
+    word.get(..1).unwrap_or(&[])
 }
 
+#[tactic(auto, unfolding(crate::specs::Table::least_of))]
 pub fn least(a: usize, b: usize) -> usize
     ensures { result ≡ least_of a b }
 {
-    if a < b {
-        return a;
-    }
-    b
+    a.min(b)
 }
 
 // ---- the head
@@ -73,23 +59,12 @@ pub fn least(a: usize, b: usize) -> usize
 pub fn go_to(head: Head, phase: Phase) -> Head
     ensures { result ≡ go_to head phase }
 {
-    let declared = head.declared;
-    let values = head.values;
-    let unknown = head.unknown;
-    Head {
-        phase,
-        signals: head.signals,
-        declared,
-        values,
-        unknown,
-        begun: head.begun,
-        time: head.time,
-        mark: head.mark,
-    }
+    Head { phase, ..head }
 }
 
 // ---- declarations
 
+#[tactic(auto, unfolding(grammar::specs::Grammar::in_heading, line::specs::Text::ascii))]
 fn heading(head: Head, word: &[u8]) -> Head
     ensures { result ≡ in_heading head word.now }
 {
@@ -109,6 +84,7 @@ fn heading(head: Head, word: &[u8]) -> Head
 }
 
 // On to the next phase at `$end`.
+#[tactic(auto, unfolding(grammar::specs::Grammar::until_end, line::specs::Text::ascii))]
 fn until_end(head: Head, word: &[u8], next: Phase) -> Head
     ensures { result ≡ until_end head word.now next }
 {
@@ -119,6 +95,7 @@ fn until_end(head: Head, word: &[u8], next: Phase) -> Head
 }
 
 // A word of a `$var`, which may not end here.
+#[tactic(auto, unfolding(grammar::specs::Grammar::within, line::specs::Text::ascii))]
 fn within(head: Head, word: &[u8], next: Phase) -> Head
     ensures { result ≡ within head word.now next }
 {
@@ -129,12 +106,13 @@ fn within(head: Head, word: &[u8], next: Phase) -> Head
 }
 
 // The first declaration of a name counts.
+#[tactic(auto, unfolding(grammar::specs::Grammar::ours, laws::specs::Pick::pick))]
 fn ours(declared: [bool; 8], which: u8) -> u8
     ensures { result ≡ ours declared which }
 {
     let k = which as usize;
     if k < 8 {
-        return laws::pick8(declared[k], 8, which);
+        return laws::pick(declared[k], 8, which);
     }
     8
 }
@@ -143,11 +121,11 @@ fn ours(declared: [bool; 8], which: u8) -> u8
 fn which(head: Head, word: &[u8]) -> u8
     ensures { result ≡ ours head.declared (which_of word.now) }
 {
-    let declared = head.declared;
-    ours(declared, spelling::which_of(word))
+    ours(head.declared, spelling::which_of(word))
 }
 
 // What a `$var` that is read comes to: 0, or the number of its refusal.
+#[tactic(auto, unfolding(grammar::specs::Grammar::fate))]
 pub fn fate(size: u8, which: u8, count: usize, fits: bool) -> u8
     ensures { result ≡ fate size which count fits }
 {
@@ -163,6 +141,7 @@ pub fn fate(size: u8, which: u8, count: usize, fits: bool) -> u8
     17
 }
 
+#[tactic(auto, unfolding(grammar::specs::Grammar::more_signals))]
 fn more_signals(n: u8) -> u8
     ensures { result ≡ more_signals n }
 {
@@ -173,6 +152,7 @@ fn more_signals(n: u8) -> u8
 }
 
 // One of the eight is declared.
+#[tactic(auto, unfolding(grammar::specs::Grammar::declare))]
 fn declare(head: Head, which: u8) -> Head
     ensures { result ≡ declare head which }
 {
@@ -186,6 +166,7 @@ fn declare(head: Head, which: u8) -> Head
     head
 }
 
+#[tactic(auto, unfolding(grammar::specs::Grammar::judged))]
 fn judged(head: Head, which: u8, number: u8) -> Head
     ensures { result ≡ judged head which number }
 {
@@ -195,6 +176,7 @@ fn judged(head: Head, which: u8, number: u8) -> Head
     go_to(head, Phase::Refused(number))
 }
 
+#[tactic(auto, unfolding(grammar::specs::Grammar::closing, line::specs::Text::ascii))]
 fn closing(head: Head, word: &[u8], size: u8, which: u8, count: usize, fits: bool) -> Head
     ensures { result ≡ closing head word.now size which count fits }
 {
@@ -207,6 +189,7 @@ fn closing(head: Head, word: &[u8], size: u8, which: u8, count: usize, fits: boo
 // ---- changes
 
 // One of the eight has the identifier.
+#[tactic(auto, unfolding(grammar::specs::Grammar::set_on))]
 fn set(c: Change, digits: Digits, which: u8) -> Change
     ensures { result ≡ set_on c digits which }
 {
@@ -223,6 +206,7 @@ fn set(c: Change, digits: Digits, which: u8) -> Change
     n
 }
 
+#[tactic(auto, unfolding(grammar::specs::Grammar::entry_on))]
 fn entry(c: Change, digits: Digits, which: u8, hit: bool) -> Change
     ensures { result ≡ entry_on c digits which hit }
 {
@@ -245,38 +229,33 @@ fn changes(
     let n = least(table.count, 64);
     let mut c = start;
     let mut from = 0;
-    let mut i = 0;
-    while i < n {
+    for i in 0..n {
         let to = table.ends[i];
         let hit = !over & spelling::same(id, part(pool, from, to));
         c = entry(c, digits, table.which[i], hit);
         from = to;
-        i += 1;
     }
     c
 }
 
+#[tactic(auto, unfolding(grammar::specs::Grammar::changed))]
 fn changed(head: Head, c: Change) -> Head
     ensures { result ≡ changed head c }
 {
     if c.found & c.fine {
-        let declared = head.declared;
         let values = c.values;
         let unknown = c.unknown;
         return Head {
             phase: Phase::Body,
-            signals: head.signals,
-            declared,
             values,
             unknown,
-            begun: head.begun,
-            time: head.time,
-            mark: head.mark,
+            ..head
         };
     }
     go_to(head, Phase::Refused(14))
 }
 
+#[tactic(auto, unfolding(grammar::specs::Grammar::apply))]
 fn apply(head: Head, digits: Digits, id: &[u8], over: bool, table: Table, pool: &[u8]) -> Head
     ensures { result ≡ apply head digits id.now over (table_of table pool.now) }
 {
@@ -293,26 +272,20 @@ fn apply(head: Head, digits: Digits, id: &[u8], over: bool, table: Table, pool: 
 
 // ---- time
 
-pub fn pick64(c: bool, a: u64, b: u64) -> u64
-    ensures { result ≡ pick c a b }
-{
-    if c {
-        return a;
-    }
-    b
-}
-
+#[tactic(auto, unfolding(grammar::specs::Grammar::moved, laws::specs::Pick::pick))]
 fn moved(head: Head, time: u64) -> Head
     ensures { result ≡ moved head time }
 {
-    let mut h = head;
-    h.mark = time;
-    h.begun = true;
-    h.time = pick64(head.begun, head.time, time);
-    h
+    Head {
+        begun: true,
+        time: laws::pick(head.begun, head.time, time),
+        mark: time,
+        ..head
+    }
 }
 
 // A mark with its time.
+#[tactic(auto, unfolding(grammar::specs::Grammar::timed))]
 fn timed(head: Head, time: u64, over: bool) -> Head
     ensures { result ≡ timed head time over }
 {
@@ -325,18 +298,19 @@ fn timed(head: Head, time: u64, over: bool) -> Head
     moved(head, time)
 }
 
+#[tactic(auto, unfolding(grammar::specs::Grammar::marked))]
 fn mark(head: Head, digits: &[u8], over: bool) -> Head
     ensures { result ≡ marked head digits.now over }
 {
-    let t = spelling::time_of(digits);
-    if t.fine {
-        return timed(head, t.value, over);
+    match spelling::time_of(digits) {
+        Some(time) => timed(head, time, over),
+        None => go_to(head, Phase::Refused(14)),
     }
-    go_to(head, Phase::Refused(14))
 }
 
 // ---- after the declarations
 
+#[tactic(auto, unfolding(grammar::specs::Grammar::passed, line::specs::Text::ascii))]
 fn passed(word: &[u8]) -> bool
     ensures { result ≡ passed word.now }
 {
@@ -347,6 +321,7 @@ fn passed(word: &[u8]) -> bool
         | spelling::same(word, b"$dumpoff")
 }
 
+#[tactic(auto, unfolding(grammar::specs::Grammar::section))]
 fn section(head: Head, word: &[u8]) -> Head
     ensures { result ≡ section head word.now }
 {
@@ -363,43 +338,30 @@ fn valued(head: Head, digits: Digits) -> Head
     go_to(head, Phase::Valued(digits))
 }
 
+#[tactic(auto, unfolding(grammar::specs::Grammar::in_body))]
 fn body(head: Head, word: &[u8], over: bool, table: Table, pool: &[u8]) -> Head
     ensures { result ≡ in_body head word.now over (table_of table pool.now) }
 {
-    let b = spelling::lower(first(word));
-    if b == b'#' {
-        return mark(head, rest(word), over);
+    match spelling::lower(first(word)) {
+        b'#' => mark(head, rest(word), over),
+        b'$' => section(head, word),
+        b'b' => valued(head, spelling::digits_of(rest(word))),
+        b'r' | b's' => valued(head, spelling::broken()),
+        _ => {
+            let digits = spelling::digits_of(one(word));
+            apply(head, digits, rest(word), over, table, pool)
+        },
     }
-    if b == b'$' {
-        return section(head, word);
-    }
-    if b == b'b' {
-        return valued(head, spelling::digits_of(rest(word)));
-    }
-    if b == b'r' {
-        return valued(head, spelling::broken());
-    }
-    if b == b's' {
-        return valued(head, spelling::broken());
-    }
-    apply(
-        head,
-        spelling::digits_of(one(word)),
-        rest(word),
-        over,
-        table,
-        pool,
-    )
 }
 
 // ---- a word
 
 // The head after a word.
+#[tactic(auto, unfolding(grammar::specs::Grammar::head_by), using(crate::proofs::Walk::table_length))]
 pub fn read(head: Head, word: &[u8], over: bool, table: Table, pool: &[u8]) -> Head
     ensures { result ≡ head_by head.phase head word.now over (table_of table pool.now) table.fits }
 {
-    let phase = head.phase;
-    match phase {
+    match head.phase {
         Phase::Heading => heading(head, word),
         Phase::Skipping => until_end(head, word, Phase::Heading),
         Phase::Kind => within(head, word, Phase::Size),
@@ -414,8 +376,6 @@ pub fn read(head: Head, word: &[u8], over: bool, table: Table, pool: &[u8]) -> H
         Phase::Body => body(head, word, over, table, pool),
         Phase::Aside => until_end(head, word, Phase::Body),
         Phase::Valued(digits) => apply(head, digits, word, over, table, pool),
-        Phase::Declared => head,
-        Phase::Done => head,
-        Phase::Refused(_) => head,
+        Phase::Declared | Phase::Done | Phase::Refused(_) => head,
     }
 }

@@ -1,19 +1,19 @@
 // The picture side: what the accesses of a cycle leave in it. It is told what to do by the timing side's orders.
 #![tactic(auto)]
 
-ghost use Rattle.std.specs.Prelude.{◌≡◌, Bool, ◌<◌, length, ℤ};
+ghost use Rattle.std.specs.Prelude.{◌≡◌, Bool, ◌<◌};
 ghost use Rattle.laws.specs.Clock.{InRange};
-ghost use Rattle.memory.specs.Memory.{Lent};
+ghost use Rattle.access.specs.Matrix.{filled};
 ghost use Rattle.access.specs.Merge.{latch_of};
-ghost use Rattle.picture.specs.Machinery.Spots.{drawn_by, gap_spot, slot_noted, lit_noted, dark_noted};
+ghost use Rattle.picture.specs.Machinery.Spots.{dark_byte, finished, drawn_by, gap_spot, slot_noted, lit_noted, dark_noted};
 ghost use Rattle.picture.specs.Pen.{fresh_pen, same_clock, character_of, graphics_of, slotted, matrix_after};
 
-use access::{Latch, Spots};
-use memory::Found;
+use access::{Latch, Slots, Spots};
+use memory::{Found, Host, Memory};
 use schedule::Reasons;
 use side::Orders;
 
-// The picture's numbers; its four arrays are lent beside it.
+// The picture's numbers; its arrays are lent beside it.
 #[derive(Clone, Copy)]
 pub struct Pen {
     pub ch: u16,
@@ -33,6 +33,7 @@ pub struct Drawn {
 }
 
 impl Pen {
+    #[tactic(auto, unfolding(crate::specs::Pen::fresh_pen))]
     pub fn new() -> Self
         ensures { result ≡ fresh_pen }
     {
@@ -49,6 +50,7 @@ impl Pen {
 }
 
 // Whether this is the very cycle that forced the bad line.
+#[tactic(auto, using(crate::proofs::Same::same_bits))]
 pub fn same_clock(clock: i64, forced: i64) -> bool
     ensures { result ≡ same_clock clock forced }
 {
@@ -56,18 +58,18 @@ pub fn same_clock(clock: i64, forced: i64) -> bool
 }
 
 // The character latch after the graphics access of this cycle, if it has one.
-pub fn character(matrix: &mut [u16], orders: Orders, clock: i64, pen: Pen) -> Latch
-    requires fact_1 { length matrix.old ≡ 40 }
-    requires fact_2 { InRange clock × InRange pen.forced }
-    ensures fact_1 { result ≡ latch_of (character_of matrix.old orders clock pen) }
-    ensures fact_2 { matrix.new ≡ (character_of matrix.old orders clock pen).matrix }
+#[tactic(auto, unfolding(crate::specs::Pen::character_of))]
+pub fn character(matrix: &mut [u16; 40], orders: Orders, clock: i64, pen: Pen) -> Latch
+    requires { InRange clock × InRange pen.forced }
+    ensures latch { result ≡ latch_of (character_of matrix.old orders clock pen) }
+    ensures matrix { matrix.new ≡ (character_of matrix.old orders clock pen).matrix }
 {
-    let graphics = orders.graphics;
-    if !graphics {
-        return Latch {
-            ch: pen.ch,
-            carry: pen.carry,
-        };
+    let latch = Latch {
+        ch: pen.ch,
+        carry: pen.carry,
+    };
+    if !orders.graphics {
+        return latch;
     }
     let f = access::since(clock, pen.forced);
     access::latched_char(
@@ -78,12 +80,22 @@ pub fn character(matrix: &mut [u16], orders: Orders, clock: i64, pen: Pen) -> La
         orders.cycle,
         f,
         orders.vmli,
-        pen.ch,
-        pen.carry,
+        latch,
     )
 }
 
+// The graphics byte after a cycle without a graphics access, which reads nowhere.
+fn dark_byte(orders: Orders, pen: Pen) -> Found
+    ensures { result ≡ dark_byte orders pen }
+{
+    Found {
+        byte: laws::pick(schedule::graphics_cleared(orders.cycle), 0, pen.gfx),
+        address: 0,
+    }
+}
+
 // The graphics byte after this cycle, and where its access read; 0 where it has none.
+#[tactic(auto, unfolding(crate::specs::Pen::graphics_of))]
 pub fn graphics(
     ch: u16,
     orders: Orders,
@@ -91,20 +103,12 @@ pub fn graphics(
     pen: Pen,
     mode: u8,
     ptrs: u8,
-    ram: &[u8],
-    rom: &[u8],
-    bank: u8,
+    m: &Memory<'_>,
 ) -> Found
-    requires { Lent ram.now rom.now }
-    ensures { result ≡ graphics_of ch orders clock pen mode ptrs ram.now rom.now bank }
+    ensures { result ≡ graphics_of ch orders clock pen mode ptrs m.now.ram.now m.now.rom.now m.now.bank }
 {
-    let graphics = orders.graphics;
-    if !graphics {
-        let kept = laws::pick8(schedule::graphics_cleared(orders.cycle), 0, pen.gfx);
-        return Found {
-            byte: kept,
-            address: 0,
-        };
+    if !orders.graphics {
+        return dark_byte(orders, pen);
     }
     let forced = orders.waiting & schedule::late_idle(orders.cycle) & same_clock(clock, pen.forced);
     let address = access::access_address(
@@ -116,114 +120,100 @@ pub fn graphics(
         ch,
         orders.vc,
         orders.rc,
-        bank,
+        m.bank,
     );
-    memory::read(ram, rom, bank, address)
+    memory::read(m, address)
+}
+
+// The end of a cycle, once its latch and its graphics byte are there: the character access, and the mode moves on.
+fn finished(
+    pen: Pen,
+    orders: Orders,
+    mode: u8,
+    ptrs: u8,
+    latch: Latch,
+    found: Found,
+    matrix: &mut [u16; 40],
+    host: &Host<'_>,
+) -> Drawn
+    ensures drawn { result ≡ finished pen orders mode ptrs latch found host.now.memory.ram.now host.now.memory.rom.now host.now.memory.bank }
+    ensures matrix { matrix.new ≡ filled matrix.old orders.fills orders.place orders.column ptrs host.now.memory.ram.now host.now.memory.rom.now host.now.colour.now host.now.memory.bank }
+{
+    let filled = access::fill(
+        matrix,
+        orders.fills,
+        orders.place,
+        orders.column,
+        ptrs,
+        host,
+    );
+    let old = laws::pick(pen.changing, mode, pen.old);
+    Drawn {
+        pen: Pen {
+            ch: latch.ch,
+            carry: latch.carry,
+            gfx: found.byte,
+            mode,
+            old,
+            changing: false,
+            ..pen
+        },
+        spots: Spots {
+            first: found.address,
+            second: filled,
+        },
+    }
 }
 
 // The picture's numbers after a cycle; the matrix line takes the character access of the same cycle.
+#[tactic(auto, unfolding(crate::specs::Machinery::Spots::drawn_by, crate::specs::Pen::pen_after, crate::specs::Pen::matrix_after))]
 pub fn draw(
     pen: Pen,
     orders: Orders,
     clock: i64,
     mode: u8,
     ptrs: u8,
-    matrix: &mut [u16],
-    ram: &[u8],
-    rom: &[u8],
-    colour: &[u8],
-    bank: u8,
+    matrix: &mut [u16; 40],
+    host: &Host<'_>,
 ) -> Drawn
-    requires fact_1 { length matrix.old ≡ 40 }
-    requires fact_2 { InRange clock × InRange pen.forced }
-    requires fact_3 { Lent ram.now rom.now }
-    requires fact_4 { length colour.now ≡ 1024 }
-    ensures fact_1 { result ≡ drawn_by matrix.old orders clock pen mode ptrs ram.now rom.now bank }
-    ensures fact_2 { matrix.new ≡ matrix_after matrix.old orders clock pen ptrs ram.now rom.now colour.now bank }
+    requires { InRange clock × InRange pen.forced }
+    ensures drawn { result ≡ drawn_by matrix.old orders clock pen mode ptrs host.now.memory.ram.now host.now.memory.rom.now host.now.memory.bank }
+    ensures matrix { matrix.new ≡ matrix_after matrix.old orders clock pen ptrs host.now.memory.ram.now host.now.memory.rom.now host.now.colour.now host.now.memory.bank }
 {
     let latch = character(matrix, orders, clock, pen);
-    let found = graphics(latch.ch, orders, clock, pen, mode, ptrs, ram, rom, bank);
-    let filled = access::fill(
-        matrix,
-        orders.fills,
-        orders.place,
-        orders.column,
-        ptrs,
-        ram,
-        rom,
-        colour,
-        bank,
-    );
-    let old = laws::pick8(pen.changing, mode, pen.old);
-    let next = Pen {
-        ch: latch.ch,
-        carry: latch.carry,
-        gfx: found.byte,
-        mode: mode,
-        old: old,
-        changing: false,
-        forced: pen.forced,
-    };
-    let spots = Spots {
-        first: found.address,
-        second: filled,
-    };
-    Drawn {
-        pen: next,
-        spots: spots,
-    }
+    let found = graphics(latch.ch, orders, clock, pen, mode, ptrs, &host.memory);
+    finished(pen, orders, mode, ptrs, latch, found, matrix, host)
 }
 
-// The same where the cycle has no graphics access.
+// The same where the cycle has no graphics access: the latch stays.
+#[tactic(auto, unfolding(crate::specs::Machinery::Spots::drawn_by, crate::specs::Pen::pen_after, crate::specs::Pen::matrix_after, crate::specs::Pen::character_of, crate::specs::Pen::graphics_of))]
 pub fn draw_dark(
     pen: Pen,
     orders: Orders,
     clock: i64,
     mode: u8,
     ptrs: u8,
-    matrix: &mut [u16],
-    ram: &[u8],
-    rom: &[u8],
-    colour: &[u8],
-    bank: u8,
+    matrix: &mut [u16; 40],
+    host: &Host<'_>,
 ) -> Drawn
-    requires fact_1 { length matrix.old ≡ 40 }
-    requires fact_2 { orders.graphics ≡ Bool.false }
-    requires fact_3 { Lent ram.now rom.now }
-    requires fact_4 { length colour.now ≡ 1024 }
-    ensures fact_1 { result ≡ drawn_by matrix.old orders clock pen mode ptrs ram.now rom.now bank }
-    ensures fact_2 { matrix.new ≡ matrix_after matrix.old orders clock pen ptrs ram.now rom.now colour.now bank }
+    requires { orders.graphics ≡ Bool.false }
+    ensures drawn { result ≡ drawn_by matrix.old orders clock pen mode ptrs host.now.memory.ram.now host.now.memory.rom.now host.now.memory.bank }
+    ensures matrix { matrix.new ≡ matrix_after matrix.old orders clock pen ptrs host.now.memory.ram.now host.now.memory.rom.now host.now.colour.now host.now.memory.bank }
 {
-    let gfx = laws::pick8(schedule::graphics_cleared(orders.cycle), 0, pen.gfx);
-    let filled = access::fill(
-        matrix,
-        orders.fills,
-        orders.place,
-        orders.column,
-        ptrs,
-        ram,
-        rom,
-        colour,
-        bank,
-    );
-    let before = laws::pick8(pen.changing, mode, pen.old);
-    let next = Pen {
+    let latch = Latch {
         ch: pen.ch,
         carry: pen.carry,
-        gfx: gfx,
-        mode: mode,
-        old: before,
-        changing: false,
-        forced: pen.forced,
     };
-    let spots = Spots {
-        first: 0,
-        second: filled,
-    };
-    Drawn {
-        pen: next,
-        spots: spots,
-    }
+    finished(
+        pen,
+        orders,
+        mode,
+        ptrs,
+        latch,
+        dark_byte(orders, pen),
+        matrix,
+        host,
+    )
 }
 
 // Where a cycle without a slot and without graphics reads: its refresh, or the idle access.
@@ -237,71 +227,55 @@ fn gap_spot(refreshing: bool, counter: u8) -> u16
 }
 
 // The sprite slot of a cycle, if it has one; and the reads of the slot, or of the gap where there is none, in one number.
-pub fn slot(
-    pointers: &mut [u8],
-    bytes: &mut [u8],
-    words: &mut [u32],
-    orders: Orders,
-    ptrs: u8,
-    ram: &[u8],
-    rom: &[u8],
-    bank: u8,
-) -> u64
-    requires fact_1 { (length pointers.old ≡ 8) × (length bytes.old ≡ 24) × (length words.old ≡ 8) }
-    requires fact_2 { orders.sprite < 8 }
-    requires fact_3 { Lent ram.now rom.now }
-    ensures fact_1 { result ≡ slot_noted pointers.old orders ptrs ram.now rom.now bank }
-    ensures fact_2 { pointers.new ≡ (slotted pointers.old bytes.old words.old orders ptrs ram.now rom.now bank).pointers }
-    ensures fact_3 { bytes.new ≡ (slotted pointers.old bytes.old words.old orders ptrs ram.now rom.now bank).bytes }
-    ensures fact_4 { words.new ≡ (slotted pointers.old bytes.old words.old orders ptrs ram.now rom.now bank).words }
+#[tactic(auto, unfolding(crate::specs::Machinery::Spots::slot_noted, crate::specs::Pen::slotted))]
+pub fn slot(slots: &mut Slots, orders: Orders, ptrs: u8, m: &Memory<'_>) -> u64
+    requires { orders.sprite < 8 }
+    ensures noted { result ≡ slot_noted slots.old.pointers orders ptrs m.now.ram.now m.now.rom.now m.now.bank }
+    ensures pointers { slots.new.pointers ≡ (slotted slots.old.pointers slots.old.bytes slots.old.words orders ptrs m.now.ram.now m.now.rom.now m.now.bank).pointers }
+    ensures bytes { slots.new.bytes ≡ (slotted slots.old.pointers slots.old.bytes slots.old.words orders ptrs m.now.ram.now m.now.rom.now m.now.bank).bytes }
+    ensures words { slots.new.words ≡ (slotted slots.old.pointers slots.old.bytes slots.old.words orders ptrs m.now.ram.now m.now.rom.now m.now.bank).words }
 {
     let k = orders.sprite;
-    let pointing = orders.pointing;
-    let fetching = orders.fetching;
-    if pointing {
+    if orders.pointing {
         let at = access::pointer_slot(
-            pointers,
-            bytes,
+            &mut slots.pointers,
+            &mut slots.bytes,
             k,
             k == 0,
             orders.mask,
             orders.mc,
             orders.low,
             ptrs,
-            ram,
-            rom,
-            bank,
+            m,
         );
         return access::noted(
             schedule::reasons_pointer(k == 0, orders.mask, orders.low),
             at,
         );
     }
-    if fetching {
+    if orders.fetching {
         let at = access::data_slot(
-            pointers,
-            bytes,
-            words,
+            &slots.pointers,
+            &mut slots.bytes,
+            &mut slots.words,
             k,
             orders.mask,
             orders.mc,
             orders.low,
-            ram,
-            rom,
-            bank,
+            m,
         );
         return access::noted(schedule::reasons_data(orders.mask, orders.low), at);
     }
     let refreshing = schedule::refresh(orders.cycle);
-    let first = gap_spot(refreshing, orders.refresh);
     let at = Spots {
-        first: first,
+        first: gap_spot(refreshing, orders.refresh),
         second: 0,
     };
     access::noted(schedule::reasons_gap(refreshing), at)
 }
 
 // The reads of a cycle with a graphics access: `at` is where `draw` read.
+#[tactic(auto, unfolding(crate::specs::Machinery::Spots::lit_noted))]
 pub fn noted_lit(orders: Orders, at: Spots) -> u64
     ensures { result ≡ lit_noted orders at }
 {
@@ -309,6 +283,7 @@ pub fn noted_lit(orders: Orders, at: Spots) -> u64
 }
 
 // The reads of a cycle without one: its slot's or its gap's; the matrix's comes after the refresh.
+#[tactic(auto, unfolding(crate::specs::Machinery::Spots::dark_noted))]
 pub fn noted_dark(orders: Orders, slot: u64, at: Spots) -> u64
     ensures { result ≡ dark_noted orders slot at }
 {
@@ -318,9 +293,8 @@ pub fn noted_dark(orders: Orders, slot: u64, at: Spots) -> u64
             first: schedule::REFRESH,
             second: schedule::MATRIX,
         };
-        let refresh = raster::refresh_address(orders.refresh);
         let both = Spots {
-            first: refresh,
+            first: raster::refresh_address(orders.refresh),
             second: at.second,
         };
         return access::noted(why, both);

@@ -4,7 +4,7 @@ use mathlib.Core.Path.{◌≡◌, refl, sym, ◌∙◌, ap}
 use mathlib.Core.List.{[], ◌∷◌, ◌++◌}
 use native.Mathlib.Omega.{arith}
 use borrow.Author.Tests.{eq-eqb, ne_eqb}
-use Rattle.vcd.specs.Text.{digits_of}
+use Rattle.line.specs.Text.{digits_of}
 use Rattle.printout.specs.Text.{digit_of, bits_of, value_text}
 
 pub no_bits : (width v u : ℕ) → width ≡ 0 → bits_of width v u ≡ []

@@ -1,7 +1,6 @@
 -- 02 (xiii): what a capture comes to, as lines of text.
 use Rattle.std.specs.Prelude.{ℕ, zero, suc, ◌+◌, ◌/◌, ◌%◌, cond, List, [], ◌∷◌, ◌++◌, eqb, get_or}
-use Rattle.line.specs.Text.{ascii, text_of}
-use Rattle.vcd.specs.Text.{digits_of}
+use Rattle.line.specs.Text.{ascii, digits_of, text_of}
 use Rattle.intake.specs.declared.Record.{Record}
 
 -- 02 (xiii): an unknown digit is never shown as 0 or 1: it is `x`

@@ -2,11 +2,8 @@
 // then the numbers of six refusals in one that is a byte too short, one a line.
 #![tactic(auto)]
 
-ghost use Rattle.std.specs.Prelude.{◌≡◌, length};
-
 use chip::Chip;
 use streams::STDOUT_FILENO;
-use vcd::Wave;
 
 // The bytes that a call wrote.
 fn show(out: &[u8], n: usize) {
@@ -15,21 +12,15 @@ fn show(out: &[u8], n: usize) {
     }
 }
 
-fn space() -> [u8; 6]
-    ensures { 6 ≡ length result }
-{
-    [0; 6]
-}
-
 // A number, on a line.
 fn tell(number: u8) {
-    let mut text = space();
-    let end = line::put(&mut text, 0, laws::wide(number), b'\n');
+    let mut text = [0u8; 6];
+    let end = line::put(&mut text, 0, u16::from(number), b'\n');
     show(&text, end);
 }
 
 fn declare(out: &mut [u8]) {
-    let wrote = wave::declare(&mut *out);
+    let wrote = wave::declare(out);
     show(out, wrote.length);
 }
 
@@ -37,13 +28,11 @@ fn declare(out: &mut [u8]) {
 fn ticks(n: u16, ram: &[u8], rom: &[u8], colour: &[u8], out: &mut [u8]) -> Chip {
     let mut chip = chip::power_up(schedule::KIND_6569);
     let mut wave = vcd::fresh();
-    let mut left = n;
-    while 0 < left {
-        let told = wave::tick(chip, wave, ram, rom, colour, 0, &mut *out);
+    for _ in 0..n {
+        let told = wave::tick(chip, wave, ram, rom, colour, 0, out);
         show(out, told.length);
         chip = told.chip;
         wave = told.wave;
-        left -= 1;
     }
     chip
 }
@@ -56,33 +45,15 @@ fn refused(chip: Chip, ram: &[u8], bank: u8, out: &mut [u8]) {
 }
 
 // A chip whose cycle no line has.
-fn astray(chip: Chip) -> Chip {
-    let mut side = chip.side;
-    let mut beam = side.beam;
-    beam.cycle = 64;
-    side.beam = beam;
-    let regs = chip.regs;
-    let picture = chip.picture;
-    Chip {
-        regs,
-        side,
-        picture,
-    }
+fn astray(mut chip: Chip) -> Chip {
+    chip.side.beam.cycle = 64;
+    chip
 }
 
 // A chip whose clock takes no tick more.
-fn worn(chip: Chip) -> Chip {
-    let mut side = chip.side;
-    let mut bus = side.bus;
-    bus.clock = 4611686018427387904;
-    side.bus = bus;
-    let regs = chip.regs;
-    let picture = chip.picture;
-    Chip {
-        regs,
-        side,
-        picture,
-    }
+fn worn(mut chip: Chip) -> Chip {
+    chip.side.bus.clock = 4611686018427387904;
+    chip
 }
 
 // With a buffer that is a byte too short: 1 to 4 come before 13.

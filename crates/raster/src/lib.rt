@@ -42,6 +42,7 @@ pub struct Compared {
     pub irq: Irq,
 }
 
+#[tactic(auto, unfolding(crate::specs::Frame::raster_begun))]
 fn raster_begun(kind: u8, begins: bool, raster: u16) -> u16
     ensures { result ≡ raster_begun (kind_of kind) begins raster }
 {
@@ -59,12 +60,14 @@ fn line_matches(compares: bool, raster: u16, compare: u16) -> bool
 }
 
 // A match raises the interrupt once.
+#[tactic(auto, unfolding(crate::specs::Frame::match_raises))]
 pub fn match_raises(matched: bool, before: bool) -> bool
     ensures { result ≡ match_raises matched before }
 {
     matched & !before
 }
 
+#[tactic(auto, unfolding(crate::specs::Frame::raised))]
 pub fn raise(irq: Irq, raises: bool) -> Irq
     ensures { result ≡ raised irq raises }
 {
@@ -75,6 +78,7 @@ pub fn raise(irq: Irq, raises: bool) -> Irq
 }
 
 impl Frame {
+    #[tactic(auto, unfolding(crate::specs::Frame::fresh))]
     pub fn new() -> Self
         ensures { result ≡ fresh }
     {
@@ -85,32 +89,37 @@ impl Frame {
     }
 
     // The first cycle of a line: the last line waits, any other is compared.
-    fn begin(mut self, begins: bool, last: bool, raster: u16, compare: u16) -> Self
+    #[tactic(auto, unfolding(crate::specs::Frame::frame_begun))]
+    fn begin(self, begins: bool, last: bool, raster: u16, compare: u16) -> Self
         ensures { result ≡ frame_begun self begins last raster compare }
     {
         if begins {
-            self.ending = self.ending | last;
-            self.matched = line_matches(!last, raster, compare);
-            return self;
+            return Frame {
+                ending: self.ending | last,
+                matched: line_matches(!last, raster, compare),
+            };
         }
         self
     }
 
     // A comparison between two ticks: the match goes by it, and the interrupt.
-    pub fn compare(mut self, irq: Irq, raster: u16, compare: u16) -> Compared
+    #[tactic(auto, unfolding(crate::specs::Frame::compared))]
+    pub fn compare(self, irq: Irq, raster: u16, compare: u16) -> Compared
         ensures { result ≡ compared self irq raster compare }
     {
         let now = line_matches(true, raster, compare);
         let raises = match_raises(now, self.matched);
-        let told = raise(irq, raises);
-        self.matched = now;
         Compared {
-            frame: self,
-            irq: told,
+            frame: Frame {
+                matched: now,
+                ..self
+            },
+            irq: raise(irq, raises),
         }
     }
 
     // The frame's end, in the second cycle.
+    #[tactic(auto, unfolding(crate::specs::Frame::frame_ended))]
     fn end(mut self, wraps: bool) -> Self
         ensures { result ≡ frame_ended self wraps }
     {
@@ -140,20 +149,18 @@ fn sweep(
     let line = raster_begun(kind, begins, raster);
     let begun = frame.begin(begins, last, line, compare);
     let wraps = schedule::frame_ends(cycle) & begun.ending;
-    let shown = laws::pick16(wraps, 0, line);
+    let shown = laws::pick(wraps, 0, line);
     let latched = timing::latched(begins, line, den, latch);
-    let ended = begun.end(wraps);
     let equal = match_raises(begun.matched, frame.matched);
-    let told = raise(irq, equal | (wraps & (compare == 0)));
     Swept {
-        begins: begins,
-        line: line,
-        wraps: wraps,
+        begins,
+        line,
+        wraps,
         raster: shown,
         latch: latched,
         kept: latched & !wraps,
-        frame: ended,
-        irq: told,
+        frame: begun.end(wraps),
+        irq: raise(irq, equal | (wraps & (compare == 0))),
     }
 }
 
@@ -180,24 +187,25 @@ pub fn turn(
                 begins: false,
                 line: raster,
                 wraps: false,
-                raster: raster,
+                raster,
                 latch: latched,
                 kept: latched,
-                frame: frame,
-                irq: irq,
+                frame,
+                irq,
             },
-            refresh: refresh,
+            refresh,
         };
     }
     let swept = sweep(kind, frame, irq, cycle, raster, compare, den, latch);
     SweptWith {
-        swept: swept,
-        refresh: laws::pick8(swept.wraps, 255, refresh),
+        swept,
+        refresh: laws::pick(swept.wraps, 255, refresh),
     }
 }
 
 // ---- the refresh counter
 
+#[tactic(auto, unfolding(crate::specs::Refresh::less_by))]
 fn one_less(counter: u8) -> u8
     ensures { result ≡ less_by 1 counter }
 {
@@ -208,6 +216,7 @@ fn one_less(counter: u8) -> u8
 }
 
 // As a tick leaves it.
+#[tactic(auto, unfolding(crate::specs::Refresh::refresh_after))]
 pub fn refresh_after(cycle: u16, counter: u8) -> u8
     ensures { result ≡ refresh_after cycle counter }
 {

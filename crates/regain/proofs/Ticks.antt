@@ -14,7 +14,6 @@ use Rattle.vcd.specs.Text.{digits_of, change_text, changes_text, mark_text}
 use Rattle.vcd.proofs.Short.{digits_few}
 use Rattle.viewer.proofs.Split.{blacks}
 use Rattle.viewer.proofs.Digits.{fine, digits_black}
-use Rattle.grammar.specs.declared.Time.{Time}
 use Rattle.grammar.specs.declared.Phase.TheVariants.{Body}
 use Rattle.grammar.specs.Words.{Word, lower}
 use Rattle.grammar.specs.Times.{time_of}
@@ -22,7 +21,7 @@ use Rattle.grammar.specs.Grammar.{State, marked, timed, moved, in_body, head_by,
 use Rattle.grammar.specs.Reading.{Said, Tick, repeated, told_by, told, phase_after, settled}
 use Rattle.regain.specs.Regained.{known}
 use Rattle.regain.proofs.Takes.{Takes, both, nothing, word_takes, seen_whole}
-use Rattle.regain.proofs.Numbers.{time, mark_time}
+use Rattle.regain.proofs.Numbers.{mark_time}
 use Rattle.regain.proofs.Steps.{at, body, quiet_body, change_takes}
 
 -- nothing known gets unknown

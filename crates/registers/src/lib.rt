@@ -57,6 +57,7 @@ impl Irq {
     }
 
     // Bit 7 of the flags and the line, from the latches and what is enabled.
+    #[tactic(auto, unfolding(crate::specs::Irq::settled, crate::specs::Irq::asked))]
     fn settle(mut self) -> Self
         ensures { result ≡ settled self.flags self.enable }
     {
@@ -70,6 +71,7 @@ impl Irq {
         self
     }
 
+    #[tactic(auto, unfolding(crate::specs::Irq::triggered))]
     pub fn trigger(mut self, source: u8) -> Self
         ensures { result ≡ triggered self source }
     {
@@ -77,6 +79,7 @@ impl Irq {
         self.settle()
     }
 
+    #[tactic(auto, unfolding(crate::specs::Irq::cleared))]
     pub fn clear(mut self, mask: u8) -> Self
         ensures { result ≡ cleared self mask }
     {
@@ -84,6 +87,7 @@ impl Irq {
         self.settle()
     }
 
+    #[tactic(auto, unfolding(crate::specs::Irq::enabled))]
     pub fn write_enable(mut self, v: u8) -> Self
         ensures { result ≡ enabled self v }
     {
@@ -91,6 +95,7 @@ impl Irq {
         self.settle()
     }
 
+    #[tactic(auto, unfolding(crate::specs::Irq::irq_written))]
     pub fn write(self, addr: u16, v: u8) -> Self
         ensures { result ≡ irq_written self addr v }
     {
@@ -131,6 +136,7 @@ fn control1(ctrl1: u8, raster: u16) -> u8
 }
 
 // 0x19: bit 7 is the line.
+#[tactic(auto, unfolding(crate::specs::Read::read_latches))]
 fn latches(flags: u8, line: bool) -> u8
     ensures { result ≡ read_latches flags line }
 {
@@ -173,6 +179,7 @@ impl Registers {
         }
     }
 
+    #[tactic(auto, unfolding(crate::specs::Registers::written, crate::specs::Registers::latch))]
     pub fn write(mut self, addr: u16, v: u8) -> Self
         ensures { result ≡ written self addr v }
     {
@@ -194,67 +201,27 @@ impl Registers {
             return self;
         }
         match reg {
-            0x10 => {
-                self.msbx = v;
-                self
-            }
-            0x12 => {
-                self.compare = self.compare / 256 % 2 * 256 + v as u16;
-                self
-            }
-            0x15 => {
-                self.enable = v;
-                self
-            }
-            0x18 => {
-                self.ptrs = v;
-                self
-            }
-            0x1B => {
-                self.prio = v;
-                self
-            }
-            0x1C => {
-                self.multi = v;
-                self
-            }
-            0x1D => {
-                self.xexp = v;
-                self
-            }
-            0x20 => {
-                self.border = v % 16;
-                self
-            }
-            0x21 => {
-                self.bg[0] = v % 16;
-                self
-            }
-            0x22 => {
-                self.bg[1] = v % 16;
-                self
-            }
-            0x23 => {
-                self.bg[2] = v % 16;
-                self
-            }
-            0x24 => {
-                self.bg[3] = v % 16;
-                self
-            }
-            0x25 => {
-                self.mc0 = v % 16;
-                self
-            }
-            0x26 => {
-                self.mc1 = v % 16;
-                self
-            }
-            _ => self,
+            0x10 => self.msbx = v,
+            0x12 => self.compare = self.compare / 256 % 2 * 256 + u16::from(v),
+            0x15 => self.enable = v,
+            0x18 => self.ptrs = v,
+            0x1B => self.prio = v,
+            0x1C => self.multi = v,
+            0x1D => self.xexp = v,
+            0x20 => self.border = v % 16,
+            0x21 => self.bg[0] = v % 16,
+            0x22 => self.bg[1] = v % 16,
+            0x23 => self.bg[2] = v % 16,
+            0x24 => self.bg[3] = v % 16,
+            0x25 => self.mc0 = v % 16,
+            0x26 => self.mc1 = v % 16,
+            _ => {}
         }
+        self
     }
 
     // 0x10 to 0x1F.
+    #[tactic(auto, unfolding(crate::specs::Read::control_at))]
     fn control(self, irq: Irq, raster: u16, reg: u16, penx: u8, peny: u8) -> u8
         ensures { result ≡ control_at self irq raster penx peny reg }
     {
@@ -278,6 +245,7 @@ impl Registers {
     }
 
     // 0x20 to 0x26, before the unused bits.
+    #[tactic(auto, unfolding(crate::specs::Read::colour_at))]
     fn shade(self, reg: u16) -> u8
         ensures { result ≡ colour_at self reg }
     {
@@ -292,6 +260,7 @@ impl Registers {
         }
     }
 
+    #[tactic(auto, unfolding(crate::specs::Read::read_of))]
     pub fn read(self, irq: Irq, raster: u16, addr: u16, penx: u8, peny: u8) -> u8
         ensures { result ≡ read_of self irq raster addr penx peny }
     {
@@ -316,13 +285,15 @@ impl Registers {
         0xFF
     }
 
-    pub fn controls(mut self, ctrl1: u8, ctrl2: u8, compare: u16) -> Self
+    pub fn controls(self, ctrl1: u8, ctrl2: u8, compare: u16) -> Self
         ensures { result ≡ controlled self ctrl1 ctrl2 compare }
     {
-        self.ctrl1 = ctrl1;
-        self.ctrl2 = ctrl2;
-        self.compare = compare;
-        self
+        Registers {
+            ctrl1,
+            ctrl2,
+            compare,
+            ..self
+        }
     }
 
     // 0x11: its bit 7 is bit 8 of the compare line.
@@ -331,7 +302,7 @@ impl Registers {
     {
         let high = laws::has_bit(v, 7);
         self.ctrl1 = v;
-        self.compare = laws::pick16(high, 256, 0) + self.compare % 256;
+        self.compare = laws::pick(high, 256, 0) + self.compare % 256;
         self
     }
 
@@ -365,20 +336,18 @@ pub struct Controls {
     pub yexp: u8,
 }
 
+#[tactic(auto, unfolding(crate::specs::Control::timed))]
 pub fn timed(regs: Registers) -> Controls
     ensures { result ≡ timed regs }
 {
     let my = regs.my;
-    let shown = den(regs.ctrl1);
-    let rows = rsel(regs.ctrl1);
-    let columns = csel(regs.ctrl2);
     Controls {
-        den: shown,
-        rsel: rows,
+        den: den(regs.ctrl1),
+        rsel: rsel(regs.ctrl1),
         yscroll: yscroll(regs.ctrl1),
-        csel: columns,
+        csel: csel(regs.ctrl2),
         compare: regs.compare,
-        my: my,
+        my,
         enable: regs.enable,
         yexp: regs.yexp,
     }

@@ -2,109 +2,108 @@
 // the refusal, the answer, what a tick read and the chip after it come out. The format is `Replay`.
 #![tactic(auto)]
 
-ghost use Rattle.std.specs.Prelude.{◌≡◌, length};
-
-use access::Reads;
 use chip::{Answer, Chip};
 use script::Step;
 use streams::{STDIN_FILENO, STDOUT_FILENO};
 
-// What a call leaves: its refusal, its answer, what a tick read and the chip.
+// What the host lends, cut once from the one run of bytes.
+#[derive(Clone, Copy)]
+struct Memories<'a> {
+    ram: &'a [u8],
+    rom: &'a [u8],
+    colour: &'a [u8],
+}
+
+fn cut<'a>(all: &'a [u8; 21504]) -> Memories<'a> {
+    Memories {
+        ram: &all[..16384],
+        rom: &all[16384..20480],
+        colour: &all[20480..],
+    }
+}
+
+// A call of a case, and what it is called with; a step is one that a run file has too.
+#[derive(Clone, Copy)]
+enum Call {
+    Do(Step),
+    Read(u16, u8, u8),
+    HighAtPhi1,
+    DmaCount,
+    Lost,
+    PowerUp(u8),
+    Line,
+    Ticks(u16),
+}
+
+// The call of a number: up to 5 the numbers are a run file's kinds, 6 is retired, and 15 is the last.
+fn call_of(number: u8, a: u8, b: u8, c: u8, d: u8) -> Option<Call> {
+    match number {
+        0 => Some(Call::Do(Step::Tick)),
+        1 => Some(Call::Do(Step::Write(a, b))),
+        2 => Some(Call::Do(Step::Expand(a))),
+        3 => Some(Call::Do(Step::Controls(a, b, u16::from_le_bytes([c, d])))),
+        4 => Some(Call::Do(Step::Late(a))),
+        5 => Some(Call::Do(Step::Borders)),
+        7 => Some(Call::Read(u16::from(a), b, c)),
+        8 => Some(Call::HighAtPhi1),
+        9 => Some(Call::DmaCount),
+        10 => Some(Call::Do(Step::Control1(a))),
+        11 => Some(Call::Do(Step::Control2(a))),
+        12 => Some(Call::PowerUp(a)),
+        13 => Some(Call::Lost),
+        14 => Some(Call::Line),
+        15 => Some(Call::Ticks(u16::from_le_bytes([a, b]))),
+        _ => None,
+    }
+}
+
+// What a call leaves: the chip's answer, and the number that a question is answered with.
 #[derive(Clone, Copy)]
 struct Told {
-    refused: u8,
+    answer: Answer,
     value: u16,
-    reads: Reads,
-    chip: Chip,
 }
 
 fn valued(value: u16, chip: Chip) -> Told {
     Told {
-        refused: 0,
-        value: value,
-        reads: access::no_reads(),
-        chip: chip,
-    }
-}
-
-// A step of a run file, done as a run does it.
-fn stepped(chip: Chip, memories: &[u8], bank: u8, step: Step) -> Told
-    requires { length memories.now ≡ 21504 }
-{
-    let done = run::step(
-        chip,
-        bank,
-        step,
-        &memories[0..16384],
-        &memories[16384..20480],
-        &memories[20480..21504],
-    );
-    let after = done.chip;
-    let reads = done.reads;
-    Told {
-        refused: done.refused,
-        value: 0,
-        reads: reads,
-        chip: after,
+        answer: chip::answered(0, chip),
+        value,
     }
 }
 
 fn answered(answer: Answer) -> Told {
-    let after = answer.chip;
-    let reads = answer.reads;
-    Told {
-        refused: answer.refused,
-        value: 0,
-        reads: reads,
-        chip: after,
-    }
+    Told { answer, value: 0 }
+}
+
+// A step of a run file, done as a run does it.
+fn stepped(chip: Chip, memories: Memories<'_>, bank: u8, step: Step) -> Told {
+    let done = run::step(
+        chip,
+        bank,
+        step,
+        memories.ram,
+        memories.rom,
+        memories.colour,
+    );
+    answered(Answer {
+        refused: done.refused,
+        chip: done.chip,
+        reads: done.reads,
+    })
 }
 
 // The next line as a whole.
-fn lined(chip: Chip, memories: &[u8], bank: u8) -> Told
-    requires { length memories.now ≡ 21504 }
-{
-    let answer = sequencer::line(
-        chip,
-        &memories[0..16384],
-        &memories[16384..20480],
-        &memories[20480..21504],
-        bank,
-    );
-    answered(answer)
+fn lined(chip: Chip, memories: Memories<'_>, bank: u8) -> Told {
+    answered(sequencer::line(chip, memories.ram, memories.rom, memories.colour, bank))
 }
 
 // Ticks in one call.
-fn together(chip: Chip, memories: &[u8], bank: u8, n: u64) -> Told
-    requires { length memories.now ≡ 21504 }
-{
-    let answer = sequencer::ticks(
-        chip,
-        &memories[0..16384],
-        &memories[16384..20480],
-        &memories[20480..21504],
-        bank,
-        n,
-    );
-    answered(answer)
-}
-
-// The calls that a run file has too: up to 5 their numbers are its kinds.
-fn step_of(call: u8, a: u8, b: u8, c: u8, d: u8) -> Step {
-    match call {
-        0 => Step::Tick,
-        1 => Step::Write(a, b),
-        2 => Step::Expand(a),
-        3 => Step::Controls(a, b, c as u16 + d as u16 * 256),
-        4 => Step::Late(a),
-        5 => Step::Borders,
-        10 => Step::Control1(a),
-        _ => Step::Control2(a),
-    }
+fn together(chip: Chip, memories: Memories<'_>, bank: u8, n: u64) -> Told {
+    answered(sequencer::ticks(chip, memories.ram, memories.rom, memories.colour, bank, n))
 }
 
 fn high_at_phi1(chip: Chip) -> u16 {
-    if calls::ba_high_at_phi1(chip) { 1 } else { 0 }
+    calls::ba_high_at_phi1(chip) as u16
 }
 
 fn dma_count(chip: Chip) -> u16 {
@@ -115,122 +114,81 @@ fn lost(chip: Chip) -> u16 {
     (calls::cycles_lost(chip) % 65536) as u16
 }
 
-// One call by its number; any other number is tested before.
-fn perform(chip: Chip, memories: &[u8], call: u8, bank: u8, a: u8, b: u8, c: u8, d: u8) -> Told
-    requires { length memories.now ≡ 21504 }
-{
-    if (call < 6) | (call == 10) | (call == 11) {
-        return stepped(chip, memories, bank, step_of(call, a, b, c, d));
+fn perform(chip: Chip, memories: Memories<'_>, bank: u8, call: Call) -> Told {
+    match call {
+        Call::Do(step) => stepped(chip, memories, bank, step),
+        Call::Read(address, x, y) => {
+            valued(u16::from(calls::read_register(chip, address, x, y)), chip)
+        }
+        Call::HighAtPhi1 => valued(high_at_phi1(chip), chip),
+        Call::DmaCount => valued(dma_count(chip), chip),
+        Call::Lost => valued(lost(chip), chip),
+        Call::PowerUp(kind) => valued(0, chip::power_up(kind)),
+        Call::Line => lined(chip, memories, bank),
+        Call::Ticks(n) => together(chip, memories, bank, u64::from(n)),
     }
-    if call == 7 {
-        return valued(calls::read_register(chip, a as u16, b, c) as u16, chip);
-    }
-    if call == 8 {
-        return valued(high_at_phi1(chip), chip);
-    }
-    if call == 9 {
-        return valued(dma_count(chip), chip);
-    }
-    if call == 13 {
-        return valued(lost(chip), chip);
-    }
-    if call == 14 {
-        return lined(chip, memories, bank);
-    }
-    if call == 15 {
-        return together(chip, memories, bank, a as u64 + b as u64 * 256);
-    }
-    valued(0, chip::power_up(a))
-}
-
-// A run file has the first six, 7 to 9 and 13 are questions, 10 and 11 the control registers, 12 is power-up, 14 a line and 15 a run of ticks;
-// 6 is retired.
-fn is_call(call: u8) -> bool {
-    (call <= 15) & (call != 6)
 }
 
 // Writes one answer; false where that fails.
 fn tell(told: Told) -> bool {
-    let chip = told.chip;
-    let reads = told.reads;
-    let first = reads.first;
-    let second = reads.second;
+    let Answer {
+        refused,
+        chip,
+        reads,
+    } = told.answer;
+    let [low, high] = told.value.to_le_bytes();
+    let [first_low, first_high] = reads.first.address.to_le_bytes();
+    let [second_low, second_high] = reads.second.address.to_le_bytes();
     let head = [
-        told.refused,
-        (told.value % 256) as u8,
-        (told.value / 256) as u8,
-        first.reason,
-        (first.address % 256) as u8,
-        (first.address / 256) as u8,
-        second.reason,
-        (second.address % 256) as u8,
-        (second.address / 256) as u8,
+        refused,
+        low,
+        high,
+        reads.first.reason,
+        first_low,
+        first_high,
+        reads.second.reason,
+        second_low,
+        second_high,
     ];
     let mut body = [0u8; 311];
     scene::encode(chip, &mut body);
-    let written = io::write_all(STDOUT_FILENO, &head);
-    if !written {
-        return false;
-    }
-    io::write_all(STDOUT_FILENO, &body)
+    io::write_all(STDOUT_FILENO, &head) && io::write_all(STDOUT_FILENO, &body)
 }
 
 // Answers one case that is whole; false where the run ends before it.
-fn answer(call: [u8; 6], body: &[u8], memories: &[u8]) -> bool
-    requires { length memories.now ≡ 21504 }
-{
-    let decoded = scene::decode_newest(body);
-    let scene = decoded.scene;
-    if !scene {
+fn answer(case: [u8; 6], body: &[u8], memories: Memories<'_>) -> bool {
+    let [number, bank, a, b, c, d] = case;
+    let Some(chip) = scene::decode_newest(body) else {
         return false;
-    }
-    if !is_call(call[0]) {
+    };
+    let Some(call) = call_of(number, a, b, c, d) else {
         return false;
-    }
-    let chip = decoded.chip;
-    let told = perform(
-        chip, memories, call[0], call[1], call[2], call[3], call[4], call[5],
-    );
-    tell(told)
+    };
+    tell(perform(chip, memories, bank, call))
 }
 
 // One case from the input to the output; false where the run ends.
-fn one(memories: &[u8]) -> bool
-    requires { length memories.now ≡ 21504 }
-{
-    let mut call = [0u8; 6];
+fn one(memories: Memories<'_>) -> bool {
+    let mut case = [0u8; 6];
     let mut body = [0u8; 311];
-    let called = io::read_full(STDIN_FILENO, &mut call);
+    let called = io::read_full(STDIN_FILENO, &mut case);
     let read = io::read_full(STDIN_FILENO, &mut body);
-    if called != 6 {
-        return false;
-    }
-    if read != 311 {
-        return false;
-    }
-    answer(call, &body, memories)
+    called == 6 && read == 311 && answer(case, &body, memories)
 }
 
-// A loop has to end, and nothing says that an input does: the turns count down from a number that no run uses up.
-fn all(memories: &[u8])
-    requires { length memories.now ≡ 21504 }
-{
-    let mut turns = u64::MAX;
-    while turns > 0 && one(memories) {
-        turns -= 1;
+// A loop has to end, and nothing says that an input does: the turns are more than any run uses up.
+fn all(memories: Memories<'_>) {
+    for _ in 0..u64::MAX {
+        if !one(memories) {
+            return;
+        }
     }
-}
-
-fn space() -> [u8; 21504]
-    ensures { 21504 ≡ length result }
-{
-    [0; 21504]
 }
 
 fn main() {
-    let mut memories = space();
+    let mut memories = [0u8; 21504];
     let n = io::read_full(STDIN_FILENO, &mut memories);
     if n == 21504 {
-        all(&memories);
+        all(cut(&memories));
     }
 }

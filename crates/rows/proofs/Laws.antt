@@ -1,5 +1,5 @@
 -- What callers may know of the rows without opening them. Assumes nothing.
-use Rattle.std.proofs.Common.{◌≡◌, ℕ, suc, ◌-◌, ◌<◌, ◌≤◌, Bool, true, false, not, sym, refl, ◌∙◌, arith}
+use Rattle.std.proofs.Common.{◌≡◌, ℕ, suc, ◌-◌, ◌<◌, Bool, true, false, not, sym, refl, ◌∙◌, arith}
 use borrow.Author.Tests.{not-true, not-false}
 use Rattle.laws.proofs.Choice.{either, picks}
 use Rattle.schedule.specs.Diagram.{happens, first_of, character_access, vmli_counts}

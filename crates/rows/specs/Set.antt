@@ -1,6 +1,5 @@
 -- A record with one field changed: the only place that lists every field. Written by tools/setters.
-use Rattle.std.specs.Prelude.{ℕ, Bool}
-use Rattle.rows.specs.declared.Pending.{Pending}
+use Rattle.std.specs.Prelude.{ℕ, Bool, Option}
 use Rattle.rows.specs.declared.Rows.{Rows}
 use Rattle.rows.specs.declared.Waits.{Waits}
 
@@ -25,5 +24,5 @@ transition≔ v r = record { vc = r.vc; vcbase = r.vcbase; rc = r.rc; vmli = r.v
 abbrev pub access≔ : Bool → Rows → Rows
 access≔ v r = record { vc = r.vc; vcbase = r.vcbase; rc = r.rc; vmli = r.vmli; display = r.display; transition = r.transition; access = v }
 
-abbrev pub place≔ : Pending → Waits → Waits
+abbrev pub place≔ : Option ℕ → Waits → Waits
 place≔ v r = record { place = v }

@@ -3,7 +3,7 @@
 
 ghost use Rattle.std.specs.Prelude.{◌≡◌, ◌<◌, Bool};
 ghost use Rattle.schedule.specs.Diagram.{happens, graphics_access};
-ghost use Rattle.rows.specs.Pending.{place_of, waits, pending_after};
+ghost use Rattle.rows.specs.Pending.{place_of, pending_after};
 ghost use Rattle.rows.specs.Rows.{fresh, vc_after, vmli_after, rc_after, access_after, display_after, rowed, rows_later};
 
 // The row counters and the states of the display logic.
@@ -33,45 +33,36 @@ pub struct Rowed {
     pub fetches: bool,
 }
 
-// A place of the matrix line whose colour nibble is still to come from the CPU's side of the bus.
-#[derive(Clone, Copy)]
-pub enum Pending {
-    Nothing,
-    At(u8),
-}
-
-// What waits for the CPU's byte, in a record of its own: a place that comes or goes is then no new side.
+// The place of the matrix line whose colour nibble is still to come from the CPU's side of the bus, if there is one.
+// It has a record of its own: a place that comes or goes is then no new side.
 #[derive(Clone, Copy)]
 pub struct Waits {
-    pub place: Pending,
+    pub place: Option<u8>,
 }
 
 // The place of the matrix line for a count of VMLI.
+#[tactic(auto, unfolding(crate::specs::Pending::place_of))]
 pub fn place(vmli: u8) -> u8
     ensures { result ≡ place_of vmli }
 {
     if vmli < 40 { vmli } else { vmli % 40 }
 }
 
-fn waits_at(place: u8) -> Waits
-    ensures { result ≡ waits (Pending.At place) }
-{
-    Waits {
-        place: Pending::At(place),
-    }
-}
-
 // An access that finds the bus still the CPU's makes its place pending, in place of an earlier one.
+#[tactic(auto, unfolding(crate::specs::Pending::pending_after))]
 pub fn next_pending(missed: bool, vmli: u8, old: Waits) -> Waits
     ensures { result ≡ pending_after missed vmli old }
 {
     if missed {
-        return waits_at(place(vmli));
+        return Waits {
+            place: Some(place(vmli)),
+        };
     }
     old
 }
 
 // VC after k accesses.
+#[tactic(auto, unfolding(crate::specs::Rows::vc_after))]
 fn vc_after(k: u8, moves: bool, vc: u16) -> u16
     ensures { result ≡ vc_after k moves vc }
 {
@@ -81,6 +72,7 @@ fn vc_after(k: u8, moves: bool, vc: u16) -> u16
     vc
 }
 
+#[tactic(auto, unfolding(crate::specs::Rows::vmli_after))]
 fn vmli_after(k: u8, moves: bool, vmli: u8) -> u8
     ensures { result ≡ vmli_after k moves vmli }
 {
@@ -90,6 +82,7 @@ fn vmli_after(k: u8, moves: bool, vmli: u8) -> u8
     vmli
 }
 
+#[tactic(auto, unfolding(crate::specs::Rows::rc_after))]
 fn rc_after(goes: bool, rc: u8) -> u8
     ensures { result ≡ rc_after goes rc }
 {
@@ -100,6 +93,7 @@ fn rc_after(goes: bool, rc: u8) -> u8
 }
 
 // Character accesses are chosen once a line, and end with it.
+#[tactic(auto, unfolding(crate::specs::Rows::access_after))]
 fn access_after(chosen: bool, ends: bool, bad: bool, access: bool) -> bool
     ensures { result ≡ access_after chosen ends bad access }
 {
@@ -109,6 +103,7 @@ fn access_after(chosen: bool, ends: bool, bad: bool, access: bool) -> bool
     access & !ends
 }
 
+#[tactic(auto, unfolding(crate::specs::Rows::display_after))]
 fn display_after(ends: bool, rc: u8, bad: bool, display: bool) -> bool
     ensures { result ≡ display_after ends rc bad display }
 {
@@ -119,6 +114,7 @@ fn display_after(ends: bool, rc: u8, bad: bool, display: bool) -> bool
 }
 
 impl Rows {
+    #[tactic(auto, unfolding(crate::specs::Rows::fresh))]
     pub fn new() -> Self
         ensures { result ≡ fresh }
     {
@@ -134,14 +130,14 @@ impl Rows {
     }
 
     // Some ticks on that only count, each with its graphics access.
-    pub fn later(mut self, k: u8) -> Self
+    pub fn later(self, k: u8) -> Self
         ensures { result ≡ rows_later k self }
     {
-        let vc = vc_after(k, self.display, self.vc);
-        let vmli = vmli_after(k, self.display, self.vmli);
-        self.vc = vc;
-        self.vmli = vmli;
-        self
+        Rows {
+            vc: vc_after(k, self.display, self.vc),
+            vmli: vmli_after(k, self.display, self.vmli),
+            ..self
+        }
     }
 }
 
@@ -149,9 +145,9 @@ fn turn(rows: Rows, cycle: u16, bad: bool, rising: bool, wraps: bool) -> Rowed
     ensures { result ≡ rowed cycle bad rising wraps rows }
 {
     let loads = schedule::vc_load(cycle);
-    let vc = laws::pick16(loads, rows.vcbase, rows.vc);
-    let vmli = laws::pick8(loads, 0, rows.vmli);
-    let rc = laws::pick8(loads & bad, 0, rows.rc);
+    let vc = laws::pick(loads, rows.vcbase, rows.vc);
+    let vmli = laws::pick(loads, 0, rows.vmli);
+    let rc = laws::pick(loads & bad, 0, rows.rc);
     let chosen = schedule::access_chosen(cycle);
     let over = schedule::access_ends(cycle);
     let access = access_after(chosen, over, bad, rows.access);
@@ -162,8 +158,8 @@ fn turn(rows: Rows, cycle: u16, bad: bool, rising: bool, wraps: bool) -> Rowed
     let fetches = schedule::character_access(cycle) & access;
     let ends = schedule::row_ends(cycle);
     let shows = display_after(ends, rc, bad, display);
-    let based = laws::pick16(wraps, 0, rows.vcbase);
-    let base = laws::pick16(ends & (rc == 7), vc, based);
+    let based = laws::pick(wraps, 0, rows.vcbase);
+    let base = laws::pick(ends & (rc == 7), vc, based);
     let next_vc = vc_after(1, moves, vc);
     let next_vmli = vmli_after(1, moves, vmli);
     let next_rc = rc_after(ends & shows, rc);
@@ -174,17 +170,17 @@ fn turn(rows: Rows, cycle: u16, bad: bool, rising: bool, wraps: bool) -> Rowed
         vmli: next_vmli,
         display: shows,
         transition: waiting & !graphics,
-        access: access,
+        access,
     };
     Rowed {
         rows: next,
-        vc: vc,
-        vmli: vmli,
-        rc: rc,
-        graphics: graphics,
-        moves: moves,
-        waiting: waiting,
-        fetches: fetches,
+        vc,
+        vmli,
+        rc,
+        graphics,
+        moves,
+        waiting,
+        fetches,
     }
 }
 
@@ -197,16 +193,13 @@ pub fn turn_lit(rows: Rows, cycle: u16, bad: bool, rising: bool) -> Rowed
     let access = rows.access & !over;
     let display = rows.display | rising;
     let moves = display & !rows.transition;
-    let next_vc = vc_after(1, moves, rows.vc);
-    let next_vmli = vmli_after(1, moves, rows.vmli);
     let next = Rows {
-        vc: next_vc,
-        vcbase: rows.vcbase,
-        rc: rows.rc,
-        vmli: next_vmli,
-        display: display,
+        vc: vc_after(1, moves, rows.vc),
+        vmli: vmli_after(1, moves, rows.vmli),
+        display,
         transition: false,
-        access: access,
+        access,
+        ..rows
     };
     Rowed {
         rows: next,
@@ -214,7 +207,7 @@ pub fn turn_lit(rows: Rows, cycle: u16, bad: bool, rising: bool) -> Rowed
         vmli: rows.vmli,
         rc: rows.rc,
         graphics: true,
-        moves: moves,
+        moves,
         waiting: rows.transition,
         fetches: access,
     }
@@ -228,13 +221,8 @@ pub fn turn_dark(rows: Rows, cycle: u16, bad: bool, rising: bool, wraps: bool) -
     let still = schedule::still(cycle);
     if !wraps & still {
         let next = Rows {
-            vc: rows.vc,
-            vcbase: rows.vcbase,
-            rc: rows.rc,
-            vmli: rows.vmli,
             display: rows.display | rising,
-            transition: rows.transition,
-            access: rows.access,
+            ..rows
         };
         return Rowed {
             rows: next,

@@ -22,13 +22,11 @@ pub struct Done {
 fn from_answer(answer: Answer, bank: u8) -> Done
     ensures { result ≡ from_answer answer bank }
 {
-    let chip = answer.chip;
-    let reads = answer.reads;
     Done {
         refused: answer.refused,
-        chip,
+        chip: answer.chip,
         bank,
-        reads,
+        reads: answer.reads,
     }
 }
 
@@ -36,23 +34,23 @@ fn from_answer(answer: Answer, bank: u8) -> Done
 fn from_chip(chip: Chip, bank: u8) -> Done
     ensures { result ≡ from_chip chip bank }
 {
-    let reads = access::no_reads();
     Done {
         refused: 0,
         chip,
         bank,
-        reads,
+        reads: access::no_reads(),
     }
 }
 
 // One step of a run file on a chip, with the memory that the host lends.
+#[tactic(auto, unfolding(crate::specs::Run::done_of))]
 pub fn step(chip: Chip, bank: u8, step: Step, ram: &[u8], rom: &[u8], colour: &[u8]) -> Done
     ensures { result ≡ done_of (host ram.now rom.now colour.now bank) chip step }
 {
     match step {
         Step::Tick => from_answer(sequencer::tick(chip, ram, rom, colour, bank), bank),
         Step::Write(address, value) => from_chip(
-            calls::write_register(chip, laws::wide(address), value),
+            calls::write_register(chip, u16::from(address), value),
             bank,
         ),
         Step::Expand(value) => from_chip(calls::write_y_expand(chip, value), bank),

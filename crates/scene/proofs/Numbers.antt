@@ -12,8 +12,7 @@ use mir.Val.{SFits, to_z, of_z}
 use mir.Facts.{to_z-of_z, of_z-to_z, Fits-of_z}
 use Rattle.laws.specs.Bytes.{low_byte, high_byte, word}
 use Rattle.laws.proofs.Choice.{by_test}
-use Rattle.rows.specs.declared.Pending.{Pending}
-use Rattle.rows.specs.declared.Pending.TheVariants.{Nothing, At}
+use Rattle.std.specs.Prelude.{Option, None, Some}
 use Rattle.rows.specs.Pending.{Pends}
 use Rattle.scene.specs.Numbers.{long, bits, clock_of, count_byte, aec_of, flag_byte, flag_of, place_byte, pending_of}
 
@@ -48,15 +47,15 @@ pub count_back : (z : ℤ) → SFits w8 z → aec_of (count_byte z) ≡ z
 unfolding count_byte aec_of
 count_back z f = to_z-of_z f
 
-pub place_back : (p : Pending) → Pends p → pending_of (place_byte p) ≡ p
+pub place_back : (p : Option ℕ) → Pends p → pending_of (place_byte p) ≡ p
 unfolding pending_of place_byte
-place_back Nothing h = refl
-place_back (At p) h = rw (ne_eqb p 255 (λ (e : p ≡ 255). let k : p < 40 = h in omega arith))
+place_back None h = refl
+place_back (Some p) h = rw (ne_eqb p 255 (λ (e : p ≡ 255). let k : p < 40 = h in omega arith))
 
-pub place_fine_lem : (p : Pending) → Pends p → (eqb (place_byte p) 255 || ltb (place_byte p) 40) ≡ true
+pub place_fine_lem : (p : Option ℕ) → Pends p → (eqb (place_byte p) 255 || ltb (place_byte p) 40) ≡ true
 unfolding place_byte
-place_fine_lem Nothing h = refl
-place_fine_lem (At p) h = rw (ne_eqb p 255 (λ (e : p ≡ 255). let k : p < 40 = h in omega arith), lt-ltb p 40 h)
+place_fine_lem None h = refl
+place_fine_lem (Some p) h = rw (ne_eqb p 255 (λ (e : p ≡ 255). let k : p < 40 = h in omega arith), lt-ltb p 40 h)
 
 -- ---- the other way: bytes, their number, the bytes
 
@@ -154,7 +153,7 @@ count_again b h = of_z-to_z {w = w8} (record { fits = h })
 
 pub place_again : (b : ℕ) → place_byte (pending_of b) ≡ b
 unfolding place_byte pending_of
-place_again b = by_test (λ (p : Pending). place_byte p ≡ b) (eqb b 255) (λ e. sym (eqb-true b 255 e)) (λ e. refl)
+place_again b = by_test (λ (p : Option ℕ). place_byte p ≡ b) (eqb b 255) (λ e. sym (eqb-true b 255 e)) (λ e. refl)
 
 pub place_on_line : (b : ℕ) → (eqb b 255 || ltb b 40) ≡ true → Pends (pending_of b)
 unfolding pending_of

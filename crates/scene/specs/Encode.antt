@@ -1,5 +1,5 @@
 -- The 311 bytes of a chip, part by part in the order of FORMATS, Scene: the newest version.
-use Rattle.std.specs.Prelude.{ℕ, zero, suc, ◌+◌, ◌*◌, ◌/◌, ◌%◌, Bool, List, [], ◌∷◌, ◌++◌, ℤ, get_or}
+use Rattle.std.specs.Prelude.{ℕ, zero, suc, ◌+◌, ◌*◌, ◌/◌, ◌%◌, Bool, List, [], ◌∷◌, ◌++◌, ℤ, get_or, Option}
 use Rattle.laws.specs.Bytes.{low_byte, high_byte}
 use Rattle.registers.specs.declared.Irq.{Irq}
 use Rattle.registers.specs.declared.Registers.{Registers}
@@ -10,7 +10,6 @@ use Rattle.sprites.specs.declared.Sprites.{Sprites}
 use Rattle.sprites.specs.Sprites.{sprite_at}
 use Rattle.arbitration.specs.declared.Bus.{Bus}
 use Rattle.raster.specs.declared.Frame.{Frame}
-use Rattle.rows.specs.declared.Pending.{Pending}
 use Rattle.rows.specs.declared.Rows.{Rows}
 use Rattle.side.specs.declared.Side.{Side}
 use Rattle.picture.specs.declared.Pen.{Pen}
@@ -84,7 +83,7 @@ abbrev pub clocks_bytes : Bus → ℤ → List ℕ
 clocks_bytes b forced = clock_bytes b.fall ++ clock_bytes b.rise ++ clock_bytes forced ++ clock_bytes b.clock
 
 -- pending place; 02 (iv): the kind; 02 (xi): the lost cycles; 02 (xiv): the refresh counter
-abbrev pub tail_bytes : Pending → ℕ → ℕ → ℕ → List ℕ
+abbrev pub tail_bytes : Option ℕ → ℕ → ℕ → ℕ → List ℕ
 tail_bytes place kind lost refresh = place_byte place ∷ kind ∷ lost % 256 ∷ refresh ∷ []
 
 unfoldable pub encoded : Chip → List ℕ

@@ -1,11 +1,9 @@
 -- Fields as bytes: numbers low byte first, signed ones in two's complement, flags 0 or 1, no pending place 255.
-use Rattle.std.specs.Prelude.{ℕ, ◌+◌, ◌*◌, ◌/◌, ◌%◌, Bool, cond, List, [], ◌∷◌, eqb, ℤ}
+use Rattle.std.specs.Prelude.{ℕ, ◌+◌, ◌*◌, ◌/◌, ◌%◌, Bool, cond, List, [], ◌∷◌, eqb, ℤ, Option, None, Some}
 use Rattle.std.specs.Int.{w8, w64}
 use mir.Val.{to_z, of_z, bool_byte}
 use Rattle.laws.specs.Bytes.{word}
 use Rattle.versions.specs.Versions.{byte_at}
-use Rattle.rows.specs.declared.Pending.{Pending}
-use Rattle.rows.specs.declared.Pending.TheVariants.{Nothing, At}
 
 -- FORMATS, Scene: a number of four bytes
 abbrev pub long_bytes : ℕ → List ℕ
@@ -40,12 +38,12 @@ abbrev pub flag_of : ℕ → Bool
 flag_of b = eqb b 1
 
 -- FORMATS, Scene: pending place (255 none)
-unfoldable pub place_byte : Pending → ℕ
-place_byte Nothing = 255
-place_byte (At p) = p
+unfoldable pub place_byte : Option ℕ → ℕ
+place_byte None = 255
+place_byte (Some p) = p
 
-unfoldable pub pending_of : ℕ → Pending
-pending_of b = cond (eqb b 255) Nothing (At b)
+unfoldable pub pending_of : ℕ → Option ℕ
+pending_of b = cond (eqb b 255) None (Some b)
 
 -- a field of a list of bytes, by its place
 abbrev pub word_at : List ℕ → ℕ → ℕ

@@ -2,12 +2,12 @@
 // Every field has a fixed place, numbers lie low byte first, and a flag is 0 or 1.
 #![tactic(auto)]
 
-ghost use Rattle.std.specs.Prelude.{◌≡◌, ◌∷◌, [], ◌+◌, ◌*◌, ◌/◌, ◌%◌, ◌≤◌, ◌<◌, length};
+ghost use Rattle.std.specs.Prelude.{◌≡◌, ◌∷◌, [], ◌+◌, ◌*◌, ◌%◌, ◌≤◌, ◌<◌, length};
 ghost use Rattle.laws.specs.Bytes.{low_byte, high_byte};
-ghost use Rattle.scene.specs.Numbers.{bits, clock_of, count_byte, aec_of, place_byte, pending_of, word_at, long_at, clock_at};
+ghost use Rattle.scene.specs.Numbers.{bits, clock_of, place_byte, pending_of, word_at, long_at, clock_at};
 ghost use Rattle.versions.specs.Put.{Put};
 ghost use Rattle.versions.specs.Versions.{next, third};
-ghost use Rattle.scene.specs.Decode.{eight_at, beam_at, registers_at, irq_at, border_at, sprite_from, sprites_at, pointers_at, words_at, sprite_bytes_at, matrix_at, rows_at, bus_at, frame_at, pen_at, waits_at, side_at, picture_at, chip_at, head_fine, early_flags, sprites_clear, late_flags, ranges_fine, fields_fine, no_scene, decoded_fields, decoded_newest, decoded};
+ghost use Rattle.scene.specs.Decode.{eight_at, beam_at, registers_at, irq_at, border_at, sprite_from, sprites_at, pointers_at, words_at, sprite_bytes_at, matrix_at, rows_at, bus_at, frame_at, pen_at, waits_at, side_at, picture_at, chip_at, head_fine, early_flags, sprites_clear, late_flags, ranges_fine, fields_fine, decoded_fields, decoded_newest, decoded};
 ghost use Rattle.scene.specs.Encode.{head_bytes, register_bytes, mask_bytes, sprite_bytes, sprite_row, sprite_rows, entry_bytes, rest_of, clock_bytes, clocks_bytes, rest_bytes, tail_bytes, encoded};
 
 use arbitration::Bus;
@@ -16,92 +16,32 @@ use chip::{Chip, Picture};
 use picture::Pen;
 use raster::Frame;
 use registers::{Irq, Registers};
-use rows::{Pending, Rows, Waits};
+use rows::{Rows, Waits};
 use side::Side;
 use sprites::{Sprite, Sprites};
 use timing::Beam;
 
-// What bytes hold: whether they are a scene, and its chip, or the chip at power-up where they are none.
-#[derive(Clone, Copy)]
-pub struct Decoded {
-    pub scene: bool,
-    pub chip: Chip,
-}
-
 // ---- numbers as bytes
 
-fn word(l: u8, h: u8) -> u16
-    ensures { result ≡ l + h * 256 }
+// A number of two bytes, low byte first.
+fn pair(x: u16) -> [u8; 2]
+    ensures { result ≡ low_byte x ∷ high_byte x ∷ [] }
 {
-    l as u16 + h as u16 * 256
+    x.to_le_bytes()
 }
 
-fn long(a: u8, b: u8, c: u8, d: u8) -> u32
-    ensures { result ≡ a + b * 256 + c * 65536 + d * 16777216 }
+#[tactic(auto, unfolding(crate::specs::Numbers::place_byte))]
+fn place_byte(place: Option<u8>) -> u8
+    ensures { result ≡ place_byte place }
 {
-    a as u32 + b as u32 * 256 + c as u32 * 65536 + d as u32 * 16777216
+    place.unwrap_or(255)
 }
 
-fn wide(b: u8) -> u32
-    ensures { result ≡ b }
-{
-    b as u32
-}
-
-// A clock as its 64 bits. A cast keeps the number, so one below zero goes by its complement.
-fn bits(x: i64) -> u64
-    ensures { result ≡ bits x }
-{
-    if x < 0 {
-        return !(!x as u64);
-    }
-    x as u64
-}
-
-fn clock_of(b: u64) -> i64
-    ensures { result ≡ clock_of b }
-{
-    if b < 9223372036854775808 {
-        return b as i64;
-    }
-    !(!b as i64)
-}
-
-// The AEC counter, in the same way.
-fn count_byte(x: i8) -> u8
-    ensures { result ≡ count_byte x }
-{
-    if x < 0 {
-        return !(!x as u8);
-    }
-    x as u8
-}
-
-fn count_of(b: u8) -> i8
-    ensures { result ≡ aec_of b }
-{
-    if b < 128 {
-        return b as i8;
-    }
-    !(!b as i8)
-}
-
-fn place_byte(p: Pending) -> u8
-    ensures { result ≡ place_byte p }
-{
-    match p {
-        Pending::Nothing => 255,
-        Pending::At(place) => place,
-    }
-}
-
-fn place_of(b: u8) -> Pending
+#[tactic(auto, unfolding(crate::specs::Numbers::pending_of))]
+fn place_of(b: u8) -> Option<u8>
     ensures { result ≡ pending_of b }
 {
-    if b == 255 {
-        return Pending::Nothing;
-    }
-    Pending::At(b)
+    (b != 255).then_some(b)
 }
 
 // ---- bytes to fields
@@ -109,43 +49,34 @@ fn word_at(bytes: &[u8], at: usize) -> u16
     requires { at + 2 ≤ length bytes.now }
     ensures { result ≡ word_at bytes.now at }
 {
-    word(bytes[at], bytes[at + 1])
+    u16::from_le_bytes([bytes[at], bytes[at + 1]])
 }
 
 fn long_at(bytes: &[u8], at: usize) -> u32
     requires { at + 4 ≤ length bytes.now }
     ensures { result ≡ long_at bytes.now at }
 {
-    long(bytes[at], bytes[at + 1], bytes[at + 2], bytes[at + 3])
+    u32::from_le_bytes([bytes[at], bytes[at + 1], bytes[at + 2], bytes[at + 3]])
 }
 
+#[tactic(auto, unfolding(crate::specs::Numbers::clock_of))]
 fn clock_at(bytes: &[u8], at: usize) -> i64
     requires { at + 8 ≤ length bytes.now }
     ensures { result ≡ clock_at bytes.now at }
 {
-    let l = long_at(bytes, at);
-    let h = long_at(bytes, at + 4);
-    clock_of(l as u64 + h as u64 * 4294967296)
+    i64::from_le_bytes(eight_at(bytes, at))
 }
 
 fn eight_at(bytes: &[u8], at: usize) -> [u8; 8]
     requires { at + 8 ≤ length bytes.now }
     ensures { result ≡ eight_at bytes.now at }
 {
-    [
-        bytes[at],
-        bytes[at + 1],
-        bytes[at + 2],
-        bytes[at + 3],
-        bytes[at + 4],
-        bytes[at + 5],
-        bytes[at + 6],
-        bytes[at + 7],
-    ]
+    let mut eight = [0u8; 8];
+    eight.copy_from_slice(&bytes[at..at + 8]);
+    eight
 }
 
-fn beam_at(bytes: &[u8]) -> Beam
-    requires { length bytes.now ≡ 311 }
+fn beam_at(bytes: &[u8; 311]) -> Beam
     ensures { result ≡ beam_at bytes.now }
 {
     Beam {
@@ -162,8 +93,7 @@ fn beam_at(bytes: &[u8]) -> Beam
     }
 }
 
-fn registers_at(bytes: &[u8]) -> Registers
-    requires { length bytes.now ≡ 311 }
+fn registers_at(bytes: &[u8; 311]) -> Registers
     ensures { result ≡ registers_at bytes.now }
 {
     Registers {
@@ -187,8 +117,7 @@ fn registers_at(bytes: &[u8]) -> Registers
     }
 }
 
-fn irq_at(bytes: &[u8]) -> Irq
-    requires { length bytes.now ≡ 311 }
+fn irq_at(bytes: &[u8; 311]) -> Irq
     ensures { result ≡ irq_at bytes.now }
 {
     Irq {
@@ -198,8 +127,7 @@ fn irq_at(bytes: &[u8]) -> Irq
     }
 }
 
-fn border_at(bytes: &[u8]) -> Border
-    requires { length bytes.now ≡ 311 }
+fn border_at(bytes: &[u8; 311]) -> Border
     ensures { result ≡ border_at bytes.now }
 {
     Border {
@@ -219,14 +147,13 @@ fn sprite_at(bytes: &[u8], at: usize) -> Sprite
     ensures { result ≡ sprite_from bytes.now at }
 {
     Sprite {
-        number: wide(bytes[at]),
+        number: u32::from(bytes[at]),
         mc: bytes[at + 2],
         base: bytes[at + 3],
     }
 }
 
-fn sprites_at(bytes: &[u8]) -> Sprites
-    requires { length bytes.now ≡ 311 }
+fn sprites_at(bytes: &[u8; 311]) -> Sprites
     ensures { result ≡ sprites_at bytes.now }
 {
     Sprites {
@@ -249,8 +176,7 @@ fn sprites_at(bytes: &[u8]) -> Sprites
     }
 }
 
-fn pointers_at(bytes: &[u8]) -> [u8; 8]
-    requires { length bytes.now ≡ 311 }
+fn pointers_at(bytes: &[u8; 311]) -> [u8; 8]
     ensures { result ≡ pointers_at bytes.now }
 {
     [
@@ -259,8 +185,7 @@ fn pointers_at(bytes: &[u8]) -> [u8; 8]
     ]
 }
 
-fn words_at(bytes: &[u8]) -> [u32; 8]
-    requires { length bytes.now ≡ 311 }
+fn words_at(bytes: &[u8; 311]) -> [u32; 8]
     ensures { result ≡ words_at bytes.now }
 {
     [
@@ -275,8 +200,7 @@ fn words_at(bytes: &[u8]) -> [u32; 8]
     ]
 }
 
-fn sprite_bytes_at(bytes: &[u8]) -> [u8; 24]
-    requires { length bytes.now ≡ 311 }
+fn sprite_bytes_at(bytes: &[u8; 311]) -> [u8; 24]
     ensures { result ≡ sprite_bytes_at bytes.now }
 {
     [
@@ -287,21 +211,17 @@ fn sprite_bytes_at(bytes: &[u8]) -> [u8; 24]
     ]
 }
 
-fn matrix_at(bytes: &[u8]) -> [u16; 40]
-    requires { length bytes.now ≡ 311 }
+fn matrix_at(bytes: &[u8; 311]) -> [u16; 40]
     ensures { result ≡ matrix_at bytes.now }
 {
     let mut matrix = [0u16; 40];
-    let mut k = 0usize;
-    while k < 40 {
+    for k in 0..40 {
         matrix[k] = word_at(bytes, 171 + 2 * k);
-        k = k + 1;
     }
     matrix
 }
 
-fn rows_at(bytes: &[u8]) -> Rows
-    requires { length bytes.now ≡ 311 }
+fn rows_at(bytes: &[u8; 311]) -> Rows
     ensures { result ≡ rows_at bytes.now }
 {
     Rows {
@@ -315,23 +235,21 @@ fn rows_at(bytes: &[u8]) -> Rows
     }
 }
 
-fn bus_at(bytes: &[u8]) -> Bus
-    requires { length bytes.now ≡ 311 }
+fn bus_at(bytes: &[u8; 311]) -> Bus
     ensures { result ≡ bus_at bytes.now }
 {
     Bus {
         clock: clock_at(bytes, 299),
         fall: clock_at(bytes, 275),
         rise: clock_at(bytes, 283),
-        aec: count_of(bytes[274]),
+        aec: bytes[274].cast_signed(),
         balow: bytes[257] == 1,
         aeclow: bytes[258] == 1,
-        lost: wide(bytes[309]) as u64,
+        lost: u64::from(bytes[309]),
     }
 }
 
-fn frame_at(bytes: &[u8]) -> Frame
-    requires { length bytes.now ≡ 311 }
+fn frame_at(bytes: &[u8; 311]) -> Frame
     ensures { result ≡ frame_at bytes.now }
 {
     Frame {
@@ -340,8 +258,7 @@ fn frame_at(bytes: &[u8]) -> Frame
     }
 }
 
-fn pen_at(bytes: &[u8]) -> Pen
-    requires { length bytes.now ≡ 311 }
+fn pen_at(bytes: &[u8; 311]) -> Pen
     ensures { result ≡ pen_at bytes.now }
 {
     Pen {
@@ -355,8 +272,7 @@ fn pen_at(bytes: &[u8]) -> Pen
     }
 }
 
-fn waits_at(bytes: &[u8]) -> Waits
-    requires { length bytes.now ≡ 311 }
+fn waits_at(bytes: &[u8; 311]) -> Waits
     ensures { result ≡ waits_at bytes.now }
 {
     Waits {
@@ -364,8 +280,7 @@ fn waits_at(bytes: &[u8]) -> Waits
     }
 }
 
-fn side_at(bytes: &[u8]) -> Side
-    requires { length bytes.now ≡ 311 }
+fn side_at(bytes: &[u8; 311]) -> Side
     ensures { result ≡ side_at bytes.now }
 {
     Side {
@@ -382,8 +297,7 @@ fn side_at(bytes: &[u8]) -> Side
     }
 }
 
-fn picture_at(bytes: &[u8]) -> Picture
-    requires { length bytes.now ≡ 311 }
+fn picture_at(bytes: &[u8; 311]) -> Picture
     ensures { result ≡ picture_at bytes.now }
 {
     Picture {
@@ -397,82 +311,59 @@ fn picture_at(bytes: &[u8]) -> Picture
 
 // ---- what is a scene
 
-fn head_fine(bytes: &[u8]) -> bool
-    requires { length bytes.now ≡ 311 }
+fn head_fine(bytes: &[u8; 311]) -> bool
     ensures { result ≡ head_fine bytes.now }
 {
-    (bytes[0] == b'N') & (bytes[1] == b'P') & (bytes[2] == b'S')
+    bytes.starts_with(b"NPS")
 }
 
-fn early_flags(bytes: &[u8]) -> bool
-    requires { length bytes.now ≡ 311 }
+fn early_flags(bytes: &[u8; 311]) -> bool
     ensures { result ≡ early_flags bytes.now }
 {
-    (bytes[8] < 2)
-        & (bytes[9] < 2)
-        & (bytes[11] < 2)
-        & (bytes[12] < 2)
-        & (bytes[13] < 2)
-        & (bytes[58] < 2)
-        & (bytes[59] < 2)
-        & (bytes[60] < 2)
-        & (bytes[61] < 2)
-        & (bytes[62] < 2)
+    versions::are_flags(&[
+        bytes[8], bytes[9], bytes[11], bytes[12], bytes[13], bytes[58], bytes[59], bytes[60],
+        bytes[61], bytes[62],
+    ])
 }
 
-fn sprites_clear(bytes: &[u8]) -> bool
-    requires { length bytes.now ≡ 311 }
+fn sprites_clear(bytes: &[u8; 311]) -> bool
     ensures { result ≡ sprites_clear bytes.now }
 {
-    (bytes[79] == 0)
-        & (bytes[91] == 0)
-        & (bytes[103] == 0)
-        & (bytes[115] == 0)
-        & (bytes[127] == 0)
-        & (bytes[139] == 0)
-        & (bytes[151] == 0)
-        & (bytes[163] == 0)
+    let cleared = [
+        bytes[79], bytes[91], bytes[103], bytes[115], bytes[127], bytes[139], bytes[151],
+        bytes[163],
+    ];
+    cleared == [0; 8]
 }
 
-fn late_flags(bytes: &[u8]) -> bool
-    requires { length bytes.now ≡ 311 }
+fn late_flags(bytes: &[u8; 311]) -> bool
     ensures { result ≡ late_flags bytes.now }
 {
-    (bytes[257] < 2)
-        & (bytes[258] < 2)
-        & (bytes[259] < 2)
-        & (bytes[260] < 2)
-        & (bytes[261] < 2)
-        & (bytes[262] < 2)
-        & (bytes[265] < 2)
-        & (bytes[271] < 2)
-        & (bytes[272] < 2)
-        & (bytes[273] < 2)
+    versions::are_flags(&[
+        bytes[257], bytes[258], bytes[259], bytes[260], bytes[261], bytes[262], bytes[265],
+        bytes[271], bytes[272], bytes[273],
+    ])
 }
 
 // The two modes and the pending place.
-fn ranges_fine(bytes: &[u8]) -> bool
-    requires { length bytes.now ≡ 311 }
+fn ranges_fine(bytes: &[u8; 311]) -> bool
     ensures { result ≡ ranges_fine bytes.now }
 {
     (bytes[263] < 8) & (bytes[264] < 8) & ((bytes[307] == 255) | (bytes[307] < 40))
 }
 
-fn fields_fine(bytes: &[u8]) -> bool
-    requires { length bytes.now ≡ 311 }
+fn fields_fine(bytes: &[u8; 311]) -> bool
     ensures { result ≡ fields_fine bytes.now }
 {
-    let head = head_fine(bytes);
-    let early = early_flags(bytes);
-    let middle = sprites_clear(bytes);
-    let late = late_flags(bytes);
-    let ranges = ranges_fine(bytes);
-    head & early & middle & late & ranges
+    head_fine(bytes)
+        && early_flags(bytes)
+        && sprites_clear(bytes)
+        && late_flags(bytes)
+        && ranges_fine(bytes)
 }
 
 // The chip that a scene holds.
-fn chip_at(bytes: &[u8]) -> Chip
-    requires { length bytes.now ≡ 311 }
+fn chip_at(bytes: &[u8; 311]) -> Chip
     ensures { result ≡ chip_at bytes.now }
 {
     Chip {
@@ -482,94 +373,72 @@ fn chip_at(bytes: &[u8]) -> Chip
     }
 }
 
-fn no_scene() -> Decoded
-    ensures { result ≡ no_scene }
-{
-    let fresh = chip::power_up(0);
-    Decoded {
-        scene: false,
-        chip: fresh,
-    }
-}
-
-fn decode_fields(bytes: &[u8]) -> Decoded
-    requires { length bytes.now ≡ 311 }
-    ensures { result ≡ decoded_fields bytes.now }
-{
-    let fine = fields_fine(bytes);
-    if fine {
-        let chip = chip_at(bytes);
-        return Decoded {
-            scene: true,
-            chip: chip,
-        };
-    }
-    no_scene()
-}
-
 // ---- versions
 
 // The newest version alone.
-pub fn decode_newest(bytes: &[u8]) -> Decoded
+#[tactic(auto, unfolding(crate::specs::Decode::decoded_newest, crate::specs::Decode::decoded_fields))]
+pub fn decode_newest(bytes: &[u8]) -> Option<Chip>
     ensures { result ≡ decoded_newest bytes.now }
 {
-    let newest = versions::is_version(bytes, 5, 311);
-    if newest {
-        return decode_fields(bytes);
+    let Ok(newest) = <&[u8; 311]>::try_from(bytes) else {
+        return None;
+    };
+    if versions::is_version(bytes, 5, 311) && fields_fine(newest) {
+        return Some(chip_at(newest));
     }
-    no_scene()
+    None
 }
 
 // Version 4 has no refresh counter: 0xFF, which is right from the next frame on.
-fn decode_fourth(bytes: &[u8]) -> Decoded
+#[tactic(auto, unfolding(versions::specs::Versions::next))]
+fn decode_fourth(bytes: &[u8]) -> Option<Chip>
     ensures { result ≡ decoded_newest (next 4 310 255 bytes.now) }
 {
-    let fourth = versions::is_version(bytes, 4, 310);
-    if fourth {
-        let mut fifth = [0u8; 311];
-        versions::grow(bytes, &mut fifth, 5, 255);
-        return decode_newest(&fifth);
+    if !versions::is_version(bytes, 4, 310) {
+        return decode_newest(bytes);
     }
-    decode_newest(bytes)
+    let mut fifth = [0u8; 311];
+    versions::grow(bytes, &mut fifth, 5, 255);
+    decode_newest(&fifth)
 }
 
 // Version 3 has no lost cycles: 0, which is right from the next line on.
-fn decode_third(bytes: &[u8]) -> Decoded
+#[tactic(auto, unfolding(versions::specs::Versions::next))]
+fn decode_third(bytes: &[u8]) -> Option<Chip>
     ensures { result ≡ decoded_newest (next 4 310 255 (next 3 309 0 bytes.now)) }
 {
-    let third = versions::is_version(bytes, 3, 309);
-    if third {
-        let mut fourth = [0u8; 310];
-        versions::grow(bytes, &mut fourth, 4, 0);
-        return decode_fourth(&fourth);
+    if !versions::is_version(bytes, 3, 309) {
+        return decode_fourth(bytes);
     }
-    decode_fourth(bytes)
+    let mut fourth = [0u8; 310];
+    versions::grow(bytes, &mut fourth, 4, 0);
+    decode_fourth(&fourth)
 }
 
 // Version 2 has a flag for each sprite: the mask decides, and they go.
-fn decode_second(bytes: &[u8]) -> Decoded
+#[tactic(auto, unfolding(versions::specs::Versions::third))]
+fn decode_second(bytes: &[u8]) -> Option<Chip>
     ensures { result ≡ decoded_newest (next 4 310 255 (next 3 309 0 (third bytes.now))) }
 {
-    let flagged = versions::is_flagged(bytes);
-    if flagged {
-        let mut third = [0u8; 309];
-        versions::unflag(bytes, &mut third);
-        return decode_third(&third);
+    if !versions::is_flagged(bytes) {
+        return decode_third(bytes);
     }
-    decode_third(bytes)
+    let mut third = [0u8; 309];
+    versions::unflag(bytes, &mut third);
+    decode_third(&third)
 }
 
 // Version 1 has no kind: it is the 6569's, 0.
-pub fn decode(bytes: &[u8]) -> Decoded
+#[tactic(auto, unfolding(crate::specs::Decode::decoded, versions::specs::Versions::renewed, versions::specs::Versions::next))]
+pub fn decode(bytes: &[u8]) -> Option<Chip>
     ensures { result ≡ decoded bytes.now }
 {
-    let first = versions::is_version(bytes, 1, 308);
-    if first {
-        let mut second = [0u8; 309];
-        versions::grow(bytes, &mut second, 2, 0);
-        return decode_second(&second);
+    if !versions::is_version(bytes, 1, 308) {
+        return decode_second(bytes);
     }
-    decode_second(bytes)
+    let mut second = [0u8; 309];
+    versions::grow(bytes, &mut second, 2, 0);
+    decode_second(&second)
 }
 
 // ---- fields to bytes
@@ -577,15 +446,17 @@ pub fn decode(bytes: &[u8]) -> Decoded
 fn head_bytes(b: Beam) -> [u8; 14]
     ensures { result ≡ head_bytes b }
 {
+    let cycle = pair(b.cycle);
+    let raster = pair(b.raster);
     [
         b'N',
         b'P',
         b'S',
         5,
-        (b.cycle % 256) as u8,
-        (b.cycle / 256) as u8,
-        (b.raster % 256) as u8,
-        (b.raster / 256) as u8,
+        cycle[0],
+        cycle[1],
+        raster[0],
+        raster[1],
         b.den as u8,
         b.rsel as u8,
         b.yscroll,
@@ -598,17 +469,13 @@ fn head_bytes(b: Beam) -> [u8; 14]
 fn register_bytes(r: Registers) -> [u8; 42]
     ensures { result ≡ register_bytes r }
 {
-    let low = (r.compare % 256) as u8;
-    let high = (r.compare / 256) as u8;
-    let mx = r.mx;
-    let my = r.my;
-    let cols = r.cols;
-    let bg = r.bg;
+    let compare = pair(r.compare);
     [
-        mx[0], mx[1], mx[2], mx[3], mx[4], mx[5], mx[6], mx[7], my[0], my[1], my[2], my[3], my[4],
-        my[5], my[6], my[7], cols[0], cols[1], cols[2], cols[3], cols[4], cols[5], cols[6],
-        cols[7], bg[0], bg[1], bg[2], bg[3], r.msbx, r.enable, r.yexp, r.xexp, r.prio, r.multi,
-        r.mc0, r.mc1, r.ctrl1, r.ctrl2, low, high, r.ptrs, r.border,
+        r.mx[0], r.mx[1], r.mx[2], r.mx[3], r.mx[4], r.mx[5], r.mx[6], r.mx[7], r.my[0], r.my[1],
+        r.my[2], r.my[3], r.my[4], r.my[5], r.my[6], r.my[7], r.cols[0], r.cols[1], r.cols[2],
+        r.cols[3], r.cols[4], r.cols[5], r.cols[6], r.cols[7], r.bg[0], r.bg[1], r.bg[2], r.bg[3],
+        r.msbx, r.enable, r.yexp, r.xexp, r.prio, r.multi, r.mc0, r.mc1, r.ctrl1, r.ctrl2,
+        compare[0], compare[1], r.ptrs, r.border,
     ]
 }
 
@@ -616,6 +483,8 @@ fn register_bytes(r: Registers) -> [u8; 42]
 fn mask_bytes(i: Irq, b: Border, s: Sprites) -> [u8; 19]
     ensures { result ≡ mask_bytes i b s }
 {
+    let top = pair(b.top);
+    let bottom = pair(b.bottom);
     [
         i.flags,
         i.enable,
@@ -626,10 +495,10 @@ fn mask_bytes(i: Irq, b: Border, s: Sprites) -> [u8; 19]
         b.disabled as u8,
         b.part40,
         b.part38,
-        (b.top % 256) as u8,
-        (b.top / 256) as u8,
-        (b.bottom % 256) as u8,
-        (b.bottom / 256) as u8,
+        top[0],
+        top[1],
+        bottom[0],
+        bottom[1],
         s.flip,
         s.clear,
         s.dma,
@@ -642,16 +511,17 @@ fn mask_bytes(i: Irq, b: Border, s: Sprites) -> [u8; 19]
 fn sprite_bytes(s: Sprite, pointer: u8, word: u32, b0: u8, b1: u8, b2: u8) -> [u8; 12]
     ensures { result ≡ sprite_bytes s pointer word b0 b1 b2 }
 {
+    let word = word.to_le_bytes();
     [
         (s.number % 256) as u8,
         pointer,
         s.mc,
         s.base,
         0,
-        (word % 256) as u8,
-        (word / 256 % 256) as u8,
-        (word / 65536 % 256) as u8,
-        (word / 16777216 % 256) as u8,
+        word[0],
+        word[1],
+        word[2],
+        word[3],
         b0,
         b1,
         b2,
@@ -662,11 +532,15 @@ fn sprite_bytes(s: Sprite, pointer: u8, word: u32, b0: u8, b1: u8, b2: u8) -> [u
 fn rest_bytes(r: Rows, b: Bus, changed: bool, p: Pen, latch: bool, f: Frame, aec: u8) -> [u8; 24]
     ensures { result ≡ rest_bytes r b changed p latch f aec }
 {
+    let vc = pair(r.vc);
+    let vcbase = pair(r.vcbase);
+    let ch = pair(p.ch);
+    let carry = pair(p.carry);
     [
-        (r.vc % 256) as u8,
-        (r.vc / 256) as u8,
-        (r.vcbase % 256) as u8,
-        (r.vcbase / 256) as u8,
+        vc[0],
+        vc[1],
+        vcbase[0],
+        vcbase[1],
         r.rc,
         r.vmli,
         b.balow as u8,
@@ -678,10 +552,10 @@ fn rest_bytes(r: Rows, b: Bus, changed: bool, p: Pen, latch: bool, f: Frame, aec
         p.mode,
         p.old,
         p.changing as u8,
-        (p.ch % 256) as u8,
-        (p.ch / 256) as u8,
-        (p.carry % 256) as u8,
-        (p.carry / 256) as u8,
+        ch[0],
+        ch[1],
+        carry[0],
+        carry[1],
         p.gfx,
         latch as u8,
         f.ending as u8,
@@ -690,20 +564,11 @@ fn rest_bytes(r: Rows, b: Bus, changed: bool, p: Pen, latch: bool, f: Frame, aec
     ]
 }
 
+#[tactic(auto, unfolding(crate::specs::Numbers::bits))]
 fn clock_bytes(x: i64) -> [u8; 8]
     ensures { result ≡ clock_bytes x }
 {
-    let b = bits(x);
-    [
-        (b % 256) as u8,
-        (b / 256 % 256) as u8,
-        (b / 65536 % 256) as u8,
-        (b / 16777216 % 256) as u8,
-        (b / 4294967296 % 256) as u8,
-        (b / 1099511627776 % 256) as u8,
-        (b / 281474976710656 % 256) as u8,
-        (b / 72057594037927936 % 256) as u8,
-    ]
+    x.to_le_bytes()
 }
 
 // ---- the bytes of a chip: each part follows the one before it, and what stood after it is written later
@@ -712,37 +577,28 @@ fn sprite_row(s: Sprites, p: Picture, k: usize) -> [u8; 12]
     requires { k < 8 }
     ensures { result ≡ sprite_row s p k }
 {
-    let one = s.at(k);
-    let pointers = p.pointers;
-    let words = p.words;
-    let bytes = p.bytes;
     sprite_bytes(
-        one,
-        pointers[k],
-        words[k],
-        bytes[3 * k],
-        bytes[3 * k + 1],
-        bytes[3 * k + 2],
+        s.at(k),
+        p.pointers[k],
+        p.words[k],
+        p.bytes[3 * k],
+        p.bytes[3 * k + 1],
+        p.bytes[3 * k + 2],
     )
 }
 
-fn put_sprite(out: &mut [u8], k: usize, s: Sprites, p: Picture)
-    requires fact_1 { k < 8 }
-    requires fact_2 { length out.old ≡ 311 }
+fn put_sprite(out: &mut [u8; 311], k: usize, s: Sprites, p: Picture)
+    requires { k < 8 }
     ensures { Put out.old out.new (75 + 12 * k) (75 + 12 * k + 12) (sprite_row s p k) }
 {
-    let row = sprite_row(s, p, k);
-    versions::put(out, 75 + 12 * k, &row);
+    versions::put(out, 75 + 12 * k, &sprite_row(s, p, k));
 }
 
-fn put_sprites(out: &mut [u8], s: Sprites, p: Picture)
-    requires { length out.old ≡ 311 }
+fn put_sprites(out: &mut [u8; 311], s: Sprites, p: Picture)
     ensures { Put out.old out.new 75 171 (sprite_rows s p 8) }
 {
-    let mut k = 0usize;
-    while k < 8 {
+    for k in 0..8 {
         put_sprite(out, k, s, p);
-        k = k + 1;
     }
 }
 
@@ -750,18 +606,14 @@ fn put_word(out: &mut [u8], at: usize, x: u16)
     requires { at + 2 ≤ length out.old }
     ensures { Put out.old out.new at (at + 2) (low_byte x ∷ high_byte x ∷ []) }
 {
-    let pair = [(x % 256) as u8, (x / 256) as u8];
-    versions::put(out, at, &pair);
+    versions::put(out, at, &pair(x));
 }
 
-fn put_matrix(out: &mut [u8], matrix: [u16; 40])
-    requires { length out.old ≡ 311 }
+fn put_matrix(out: &mut [u8; 311], matrix: [u16; 40])
     ensures { Put out.old out.new 171 251 (entry_bytes matrix 40) }
 {
-    let mut k = 0usize;
-    while k < 40 {
+    for k in 0..40 {
         put_word(out, 171 + 2 * k, matrix[k]);
-        k = k + 1;
     }
 }
 
@@ -769,12 +621,10 @@ fn put_clock(out: &mut [u8], at: usize, x: i64)
     requires { at + 8 ≤ length out.old }
     ensures { Put out.old out.new at (at + 8) (clock_bytes x) }
 {
-    let part = clock_bytes(x);
-    versions::put(out, at, &part);
+    versions::put(out, at, &clock_bytes(x));
 }
 
-fn put_clocks(out: &mut [u8], bus: Bus, forced: i64)
-    requires { length out.old ≡ 311 }
+fn put_clocks(out: &mut [u8; 311], bus: Bus, forced: i64)
     ensures { Put out.old out.new 275 307 (clocks_bytes bus forced) }
 {
     put_clock(out, 275, bus.fall);
@@ -783,82 +633,57 @@ fn put_clocks(out: &mut [u8], bus: Bus, forced: i64)
     put_clock(out, 299, bus.clock);
 }
 
-fn put_head(out: &mut [u8], beam: Beam)
-    requires { length out.old ≡ 311 }
+fn put_head(out: &mut [u8; 311], beam: Beam)
     ensures { Put out.old out.new 0 14 (head_bytes beam) }
 {
-    let part = head_bytes(beam);
-    versions::put(out, 0, &part);
+    versions::put(out, 0, &head_bytes(beam));
 }
 
-fn put_registers(out: &mut [u8], regs: Registers)
-    requires { length out.old ≡ 311 }
+fn put_registers(out: &mut [u8; 311], regs: Registers)
     ensures { Put out.old out.new 14 56 (register_bytes regs) }
 {
-    let part = register_bytes(regs);
-    versions::put(out, 14, &part);
+    versions::put(out, 14, &register_bytes(regs));
 }
 
-fn put_masks(out: &mut [u8], irq: Irq, border: Border, sprites: Sprites)
-    requires { length out.old ≡ 311 }
+fn put_masks(out: &mut [u8; 311], irq: Irq, border: Border, sprites: Sprites)
     ensures { Put out.old out.new 56 75 (mask_bytes irq border sprites) }
 {
-    let part = mask_bytes(irq, border, sprites);
-    versions::put(out, 56, &part);
+    versions::put(out, 56, &mask_bytes(irq, border, sprites));
 }
 
-fn put_rest(out: &mut [u8], s: Side, pen: Pen)
-    requires { length out.old ≡ 311 }
+fn put_rest(out: &mut [u8; 311], s: Side, pen: Pen)
     ensures { Put out.old out.new 251 275 (rest_of s pen) }
 {
-    let beam = s.beam;
-    let rows = s.rows;
-    let bus = s.bus;
-    let frame = s.frame;
-    let aec = count_byte(bus.aec);
-    let part = rest_bytes(rows, bus, s.changed, pen, beam.latch, frame, aec);
+    let aec = s.bus.aec.cast_unsigned();
+    let part = rest_bytes(s.rows, s.bus, s.changed, pen, s.beam.latch, s.frame, aec);
     versions::put(out, 251, &part);
 }
 
-fn put_tail(out: &mut [u8], pending: Pending, kind: u8, lost: u64, refresh: u8)
-    requires { length out.old ≡ 311 }
+fn put_tail(out: &mut [u8; 311], pending: Option<u8>, kind: u8, lost: u64, refresh: u8)
     ensures { Put out.old out.new 307 311 (tail_bytes pending kind lost refresh) }
 {
     let part = [place_byte(pending), kind, (lost % 256) as u8, refresh];
     versions::put(out, 307, &part);
 }
 
-fn fill(chip: Chip, out: &mut [u8])
-    requires { length out.old ≡ 311 }
-    ensures out_after { out.new ≡ encoded chip }
-    ensures out_len { length out.new ≡ 311 }
-{
-    let regs = chip.regs;
-    let side = chip.side;
-    let picture = chip.picture;
-    let beam = side.beam;
-    let irq = side.irq;
-    let border = side.border;
-    let sprites = side.sprites;
-    let bus = side.bus;
-    let waits = side.pending;
-    let pending = waits.place;
-    let pen = picture.pen;
-    let matrix = picture.matrix;
-    put_head(out, beam);
-    put_registers(out, regs);
-    put_masks(out, irq, border, sprites);
-    put_sprites(out, sprites, picture);
-    put_matrix(out, matrix);
-    put_rest(out, side, pen);
-    put_clocks(out, bus, pen.forced);
-    put_tail(out, pending, beam.kind, bus.lost, side.refresh);
-}
-
-// The same over an array, whose length its type tells. The second promise follows from the first, and spares a caller who hands the bytes on its proof.
+// The second promise follows from the first, and spares a caller who hands the bytes on its proof.
+#[tactic(auto, unfolding(crate::specs::Encode::encoded))]
 pub fn encode(chip: Chip, out: &mut [u8; 311])
     ensures out_after { out.new ≡ encoded chip }
     ensures out_len { length out.new ≡ 311 }
 {
-    fill(chip, out);
+    put_head(out, chip.side.beam);
+    put_registers(out, chip.regs);
+    put_masks(out, chip.side.irq, chip.side.border, chip.side.sprites);
+    put_sprites(out, chip.side.sprites, chip.picture);
+    put_matrix(out, chip.picture.matrix);
+    put_rest(out, chip.side, chip.picture.pen);
+    put_clocks(out, chip.side.bus, chip.picture.pen.forced);
+    put_tail(
+        out,
+        chip.side.pending.place,
+        chip.side.beam.kind,
+        chip.side.bus.lost,
+        chip.side.refresh,
+    );
 }

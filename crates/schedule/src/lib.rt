@@ -1,9 +1,9 @@
 // The schedule of a line: what the kind of chip decides, when each event happens, which sprites ask for the bus, and how many have DMA.
-#![tactic(auto)]
+#![tactic(auto, unfolding(crate::specs::Diagram::happens, crate::specs::Diagram::slot_after_bus, crate::specs::Kind::known, crate::specs::Kind::kind_of, crate::specs::Machinery::Places::pointing_at, crate::specs::Machinery::Places::fetching_at, crate::specs::Machinery::Places::sprite_in, crate::specs::Machinery::Places::is_calm, crate::specs::Machinery::Stretches::is_later, crate::specs::Machinery::Stretches::is_past, crate::specs::Machinery::Stretches::is_early, crate::specs::Machinery::Stretches::is_between, crate::specs::Machinery::Stretches::is_still, crate::specs::Machinery::Stretches::before_graphics, crate::specs::Machinery::Reads::lit_reasons, crate::specs::Machinery::Reads::pointer_reasons, crate::specs::Machinery::Reads::data_reasons, crate::specs::Machinery::Reads::gap_reasons))]
 
-ghost use Rattle.std.specs.Prelude.{◌≡◌, Bool};
+ghost use Rattle.std.specs.Prelude.{◌≡◌};
 ghost use Rattle.schedule.specs.Kind.{known, kind_of, last_cycle, last_line, first_pointer};
-ghost use Rattle.schedule.specs.Diagram.{Event, line_begins, frame_ends, refresh, matrix_request, vc_load, access_chosen, character_access, vmli_counts, graphics_access, late_idle, access_ends, graphics_cleared, row_ends, crunch, mcbase_step, first_phase, second_phase, mc_load, main_remembered, left40, left38, right38, right40, line_ends, happens, slot_after_bus};
+ghost use Rattle.schedule.specs.Diagram.{line_begins, frame_ends, refresh, matrix_request, vc_load, access_chosen, character_access, vmli_counts, graphics_access, late_idle, access_ends, graphics_cleared, row_ends, crunch, mcbase_step, first_phase, second_phase, mc_load, main_remembered, left40, left38, right38, right40, line_ends, happens, slot_after_bus};
 ghost use Rattle.schedule.specs.Requests.{mask_at, sprites_in};
 ghost use Rattle.schedule.specs.Machinery.Places.{place_of, asking_at, pointing_at, fetching_at, sprite_in, is_calm};
 ghost use Rattle.schedule.specs.Machinery.Stretches.{is_later, is_past, is_early, is_between, is_still, before_graphics};
@@ -152,6 +152,7 @@ pub fn sprites_in(dma: u8) -> u32
 }
 
 // The slots of cycles 1 and 2 and sprite 0's pointer slot come after their cycle's arbitration.
+#[tactic(auto, using(crate::proofs::Places::zero_first), unfolding(crate::specs::Diagram::slot_after_bus))]
 pub fn slot_after_bus(kind: u8, cycle: u16) -> bool
     ensures { result ≡ slot_after_bus (kind_of kind) cycle }
 {
@@ -394,12 +395,14 @@ pub fn mcbase_step(cycle: u16) -> bool
     cycle == 16
 }
 
+#[tactic(auto, using(crate::proofs::Places::first_least), unfolding(crate::specs::Diagram::happens))]
 pub fn first_phase(kind: u8, cycle: u16) -> bool
     ensures { result ≡ happens (first_phase (kind_of kind)) cycle }
 {
     cycle == first_pointer(kind) - WARNING
 }
 
+#[tactic(auto, using(crate::proofs::Places::first_least), unfolding(crate::specs::Diagram::happens))]
 pub fn second_phase(kind: u8, cycle: u16) -> bool
     ensures { result ≡ happens (second_phase (kind_of kind)) cycle }
 {

@@ -4,6 +4,7 @@ use mathlib.Core.Bool.{Bool, true, false, ◌&&◌}
 use mathlib.Core.List.{List, [], ◌∷◌}
 use Prim.Native.Nat.{ℕ, zero, suc, ◌≤◌, ◌<◌}
 use native.Mathlib.Omega.{arith}
+use Rattle.std.specs.Prelude.{Result, Ok, Err}
 use lib.Dec.{eqb, leb, ltb, eqb-suc-zero}
 use lib.ListN.{length, get_or, drop}
 use borrow.Author.Tests.{leb-true, leb-false}
@@ -11,12 +12,9 @@ use Rattle.laws.specs.Bytes.{word}
 use Rattle.laws.proofs.Choice.{either, by_test, left}
 use Rattle.script.specs.declared.Step.{Step}
 use Rattle.script.specs.declared.Step.TheVariants.{Tick, Write, Expand, Controls, Late, Borders, Bank, Control1, Control2}
-use Rattle.script.specs.declared.Read.{Read}
-use Rattle.script.specs.declared.Read.TheVariants.{Got, Refused}
-use Rattle.script.specs.declared.Change.{Change}
-use Rattle.script.specs.declared.Change.TheVariants as change
-use Rattle.script.specs.declared.Count.{Count}
-use Rattle.script.specs.declared.Count.TheVariants as count
+use Rattle.script.specs.declared.Fault.{Fault}
+use Rattle.script.specs.declared.Fault.TheVariants as fault
+use Rattle.script.specs.declared.Changed.{Changed}
 use Rattle.script.specs.declared.Part.{Part}
 use Rattle.script.specs.declared.Part.TheVariants as part
 use Rattle.script.specs.declared.Item.{Item}
@@ -28,31 +26,31 @@ use Rattle.script.specs.File.{size_of, count_of, change_of, end_of}
 use Rattle.script.specs.Machinery.Cursor.{stays, count_from, change_from, step_from, changes_begun, steps_begun, changed, step_read, begun, recorded, next_of}
 
 -- 01, Run file: an address that is read lies in its memory
-abbrev Inside : ℕ → Change → Type 0
-Inside size r = (address value : ℕ) → r ≡ change.Set address value → address < size
+abbrev Inside : ℕ → Result Changed Fault → Type 0
+Inside size r = (change : Changed) → r ≡ Ok change → change.address < size
 
-refused : (size number : ℕ) → Inside size (change.Refused number)
-refused size number address value e = absurd (let z : ◌≡◌ {A = ℕ} 0 1 = cc in omega arith)
+refused : (size : ℕ) (fault : Fault) → Inside size (Err fault)
+refused size fault change e = absurd (let z : ◌≡◌ {A = ℕ} 0 1 = cc in omega arith)
 
 pub address_inside : (size : ℕ) (s : List ℕ) → Inside size (change_of size s)
 unfolding change_of
 address_inside size s =
     let n = word (get_or s 0 0) (get_or s 1 0) in
-    either (Inside size) (ltb (length s) 3) (refused size 7)
-    (by_test (Inside size) (leb size n) (λ e. refused size 8)
-    (λ e address value q. let same : n ≡ address = cc in omega (arith, leb-false size n e)))
+    either (Inside size) (ltb (length s) 3) (refused size fault.Early)
+    (by_test (Inside size) (leb size n) (λ e. refused size fault.NotAllowed)
+    (λ e change q. let same : n ≡ change.address = cc in omega (arith, leb-false size n e)))
 
 -- 01, Run file: a step that is read is allowed
-abbrev Fine : Read → Type 0
-Fine r = (step : Step) → r ≡ Got step → allowed step ≡ true
+abbrev Fine : Result Step Fault → Type 0
+Fine r = (step : Step) → r ≡ Ok step → allowed step ≡ true
 
 fine_if : (t : Bool) (x : Step) → (t ≡ true → allowed x ≡ true) → Fine (allowed_if t x)
 unfolding allowed_if
 fine_if true x h step e = let same : x ≡ step = cc in rw (← same) (h refl)
 fine_if false x h step e = absurd (let z : ◌≡◌ {A = ℕ} 0 1 = cc in omega arith)
 
-fine_refused : (number : ℕ) → Fine (Refused number)
-fine_refused number step e = absurd (let z : ◌≡◌ {A = ℕ} 0 1 = cc in omega arith)
+fine_refused : (fault : Fault) → Fine (Err fault)
+fine_refused fault step e = absurd (let z : ◌≡◌ {A = ℕ} 0 1 = cc in omega arith)
 
 pub fine : (kind a b c d : ℕ) → Fine (step_decoded kind a b c d)
 unfolding step_decoded allowed
@@ -63,25 +61,25 @@ fine kind a b c d =
     (either Fine (eqb kind 3) (fine_if (leb (word c d) 511) (Controls a b (word c d)) (λ e. e))
     (either Fine (eqb kind 4) (fine_if (eqb b 0 && eqb c 0 && eqb d 0) (Late a) (λ e. refl))
     (either Fine (eqb kind 5) (fine_if (eqb a 0 && eqb b 0 && eqb c 0 && eqb d 0) Borders (λ e. refl))
-    (either Fine (eqb kind 6) (fine_refused 10)
+    (either Fine (eqb kind 6) (fine_refused fault.Retired)
     (either Fine (eqb kind 7) (fine_if (leb a 3 && eqb b 0 && eqb c 0 && eqb d 0) (Bank a)
     (λ e. left (leb a 3) (eqb b 0) (left (leb a 3 && eqb b 0) (eqb c 0) (left (leb a 3 && eqb b 0 && eqb c 0) (eqb d 0) e))))
     (either Fine (eqb kind 8) (fine_if (eqb b 0 && eqb c 0 && eqb d 0) (Control1 a) (λ e. refl))
     (either Fine (eqb kind 9) (fine_if (eqb b 0 && eqb c 0 && eqb d 0) (Control2 a) (λ e. refl))
-    (fine_refused 8))))))))))
+    (fine_refused fault.NotAllowed))))))))))
 
 pub step_allowed : (s : List ℕ) → Fine (step_of s)
 unfolding step_of
 step_allowed s =
-    either Fine (ltb (length s) 5) (fine_refused 7)
+    either Fine (ltb (length s) 5) (fine_refused fault.Early)
     (fine (get_or s 0 0) (get_or s 1 0) (get_or s 2 0) (get_or s 3 0) (get_or s 4 0))
 
 -- the compare line of a controls step, and the bank of a bank step
-pub compare_small : (s : List ℕ) (ctrl1 ctrl2 compare : ℕ) → step_of s ≡ Got (Controls ctrl1 ctrl2 compare) → compare ≤ 511
+pub compare_small : (s : List ℕ) (ctrl1 ctrl2 compare : ℕ) → step_of s ≡ Ok (Controls ctrl1 ctrl2 compare) → compare ≤ 511
 unfolding allowed
 compare_small s ctrl1 ctrl2 compare e = leb-true compare 511 (step_allowed s (Controls ctrl1 ctrl2 compare) e)
 
-pub bank_small : (s : List ℕ) (bank : ℕ) → step_of s ≡ Got (Bank bank) → bank ≤ 3
+pub bank_small : (s : List ℕ) (bank : ℕ) → step_of s ≡ Ok (Bank bank) → bank ≤ 3
 unfolding allowed
 bank_small s bank e = leb-true bank 3 (step_allowed s (Bank bank) e)
 
@@ -91,23 +89,23 @@ bank_small s bank e = leb-true bank 3 (step_allowed s (Bank bank) e)
 Held : Found → Type 0
 Held found = (memory : Part) (address value : ℕ) → found.item ≡ item.Change memory address value → address < size_of memory
 
-held_count : (c : Cursor) (says : ℕ → Item) (next : Part) → ((n : ℕ) (memory : Part) (address value : ℕ) → says n ≡ item.Change memory address value → ⊥) → (k : Count) → Held (count_from c says next k)
+held_count : (c : Cursor) (says : ℕ → Item) (next : Part) → ((n : ℕ) (memory : Part) (address value : ℕ) → says n ≡ item.Change memory address value → ⊥) → (k : Result ℕ Fault) → Held (count_from c says next k)
 unfolding Held
-held_count c says next no_change (count.Of n) memory address value e = absurd (no_change n memory address value e)
-held_count c says next no_change (count.Refused number) memory address value e = absurd (let z : ◌≡◌ {A = ℕ} 0 1 = cc in omega arith)
+held_count c says next no_change (Ok n) memory address value e = absurd (no_change n memory address value e)
+held_count c says next no_change (Err fault) memory address value e = absurd (let z : ◌≡◌ {A = ℕ} 0 1 = cc in omega arith)
 
-held_change : (c : Cursor) (here : Part) (k : Change) → Inside (size_of here) k → Held (change_from c here k)
+held_change : (c : Cursor) (here : Part) (k : Result Changed Fault) → Inside (size_of here) k → Held (change_from c here k)
 unfolding Held
-held_change c here (change.Set a v) inside memory address value e =
+held_change c here (Ok change) inside memory address value e =
     let same-part : here ≡ memory = cc in
-    let same : a ≡ address = cc in
-    rw (← same-part, ← same) (inside a v refl)
-held_change c here (change.Refused number) inside memory address value e = absurd (let z : ◌≡◌ {A = ℕ} 0 1 = cc in omega arith)
+    let same : change.address ≡ address = cc in
+    rw (← same-part, ← same) (inside change refl)
+held_change c here (Err fault) inside memory address value e = absurd (let z : ◌≡◌ {A = ℕ} 0 1 = cc in omega arith)
 
-held_step : (c : Cursor) (k : Read) → Held (step_from c k)
+held_step : (c : Cursor) (k : Result Step Fault) → Held (step_from c k)
 unfolding Held
-held_step c (Got step) memory address value e = absurd (let z : ◌≡◌ {A = ℕ} 0 1 = cc in omega arith)
-held_step c (Refused number) memory address value e = absurd (let z : ◌≡◌ {A = ℕ} 0 1 = cc in omega arith)
+held_step c (Ok step) memory address value e = absurd (let z : ◌≡◌ {A = ℕ} 0 1 = cc in omega arith)
+held_step c (Err fault) memory address value e = absurd (let z : ◌≡◌ {A = ℕ} 0 1 = cc in omega arith)
 
 held_end : (c : Cursor) (t : List ℕ) → Held (stays c (end_of t))
 unfolding Held end_of

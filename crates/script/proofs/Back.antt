@@ -2,8 +2,9 @@
 use mathlib.Core.Path.{◌≡◌, refl, sym}
 use mathlib.Core.Bool.{Bool, true, false, ◌&&◌}
 use mathlib.Core.List.{List, [], ◌∷◌, ◌++◌}
-use Prim.Native.Nat.{ℕ, zero, suc, ◌+◌, ◌/◌, ◌%◌, ◌<◌}
+use Prim.Native.Nat.{ℕ, zero, suc, ◌/◌, ◌%◌, ◌<◌}
 use native.Mathlib.Omega.{arith}
+use Rattle.std.specs.Prelude.{Result, Ok, Err}
 use lib.Dec.{eqb, leb}
 use lib.ListN.{length}
 use borrow.Author.Tests.{le-ltb, ne_eqb, eqb-true}
@@ -11,7 +12,8 @@ use Rattle.laws.specs.Bytes.{word}
 use Rattle.laws.proofs.Choice.{left, right, and_true}
 use Rattle.script.specs.declared.Step.{Step}
 use Rattle.script.specs.declared.Step.TheVariants.{Tick, Write, Expand, Controls, Late, Borders, Bank, Control1, Control2}
-use Rattle.script.specs.declared.Read.TheVariants.{Got, Refused}
+use Rattle.script.specs.declared.Fault.{Fault}
+use Rattle.script.specs.declared.Fault.TheVariants.{NotAllowed}
 use Rattle.script.specs.Step.{allowed_if, step_decoded, step_of, bytes_of, allowed}
 
 -- five bytes that are there are judged
@@ -36,14 +38,14 @@ read_back (Control1 value) more = there 8 value 0 0 0 more
 read_back (Control2 value) more = there 9 value 0 0 0 more
 
 -- the identity, for each step that is allowed
-pub same_step : (step : Step) (more : List ℕ) → allowed step ≡ true → step_of (bytes_of step ++ more) ≡ Got step
+pub same_step : (step : Step) (more : List ℕ) → allowed step ≡ true → step_of (bytes_of step ++ more) ≡ Ok step
 unfolding allowed_if
 same_step step more e = simp (read_back step more, e)
 
 -- ---- and what is read is what was written
 
 -- a step that was let through passed its test
-passed : (t : Bool) (x step : Step) → allowed_if t x ≡ Got step → (t ≡ true) × (x ≡ step)
+passed : (t : Bool) (x step : Step) → allowed_if t x ≡ Ok step → (t ≡ true) × (x ≡ step)
 unfolding allowed_if
 passed true x step e = (refl, cc)
 passed false x step e = absurd (let z : ◌≡◌ {A = ℕ} 0 1 = cc in omega arith)
@@ -73,11 +75,11 @@ module _ (t : Bool) (b c d : ℕ) (e : (t && eqb b 0 && eqb c 0 && eqb d 0) ≡ 
   )
 
 -- a kind above 9 is none
-no_kind : (k a b c d : ℕ) (step : Step) → step_decoded (suc (suc (suc (suc (suc (suc (suc (suc (suc (suc k)))))))))) a b c d ≡ Got step → ⊥
+no_kind : (k a b c d : ℕ) (step : Step) → step_decoded (suc (suc (suc (suc (suc (suc (suc (suc (suc (suc k)))))))))) a b c d ≡ Ok step → ⊥
 unfolding step_decoded
 no_kind k a b c d step e =
     let n = suc (suc (suc (suc (suc (suc (suc (suc (suc (suc k))))))))) in
-    let refused : Refused 8 ≡ Got step =
+    let refused : ◌≡◌ {A = Result Step Fault} (Err NotAllowed) (Ok step) =
     simp (
       ne_eqb n 0 (λ q. omega arith),
       ne_eqb n 1 (λ q. omega arith),
@@ -93,7 +95,7 @@ no_kind k a b c d step e =
     let z : ◌≡◌ {A = ℕ} 0 1 = cc in omega arith
 
 -- 01, Run file: a record that is read as a step is that step written down
-pub written : (kind a b c d : ℕ) (step : Step) → c < 256 → step_decoded kind a b c d ≡ Got step → bytes_of step ≡ kind ∷ a ∷ b ∷ c ∷ d ∷ []
+pub written : (kind a b c d : ℕ) (step : Step) → c < 256 → step_decoded kind a b c d ≡ Ok step → bytes_of step ≡ kind ∷ a ∷ b ∷ c ∷ d ∷ []
 unfolding step_decoded bytes_of
 written zero a b c d step h e =
     let p = passed (eqb a 0 && eqb b 0 && eqb c 0 && eqb d 0) Tick step e in

@@ -4,6 +4,7 @@ use mathlib.Core.Bool.{true, false}
 use mathlib.Core.List.{List, [], ◌∷◌}
 use Prim.Native.Nat.{ℕ, zero, suc, ◌+◌, ◌-◌, ◌*◌, ◌≤◌, ◌<◌}
 use native.Mathlib.Omega.{arith}
+use Rattle.std.specs.Prelude.{Result, Ok, Err}
 use native.Mathlib.Decide.{dec_lt}
 use native.Mathlib.Nat.{zero-add, suc-add, le-min, min-le_right}
 use lib.Dec.{ltb}
@@ -11,8 +12,8 @@ use lib.ListN.{length, take, drop, length-take, length-drop}
 use lib.Seq.{take-nil, take_all, get_or-take, drop-drop}
 use borrow.Author.Tests.{le-ltb, ltb-true, ltb-false, ne_eqb}
 use Rattle.laws.proofs.Choice.{by_test}
-use Rattle.script.specs.declared.Read.{Read}
-use Rattle.script.specs.declared.Read.TheVariants as read
+use Rattle.script.specs.declared.Step.{Step}
+use Rattle.script.specs.declared.Fault.{Fault}
 use Rattle.script.specs.declared.Part.{Part}
 use Rattle.script.specs.declared.Part.TheVariants as part
 use Rattle.script.specs.declared.Cursor.{Cursor}
@@ -114,9 +115,9 @@ module _ (s : List ℕ) (from left : ℕ) (c : Cursor) (w : Within from left c) 
   pub block_next : left < c.left + block_steps left → step_from c (step_of (drop (c.at - from) (block_from left (drop from s)))) ≡ next_of s c
   block_next h = in_file s c from left (left - c.left) (omega (arith, w.fewer)) (omega (arith, w.fewer, w.place)) ∙ sym next_step
 
-  past : (r : Read) → Within from left (step_from c r).cursor
-  past (read.Got step) = record { steps = refl; fewer = omega (arith, w.fewer); place = omega (arith, w.place, some) }
-  past (read.Refused number) = w
+  past : (r : Result Step Fault) → Within from left (step_from c r).cursor
+  past (Ok step) = record { steps = refl; fewer = omega (arith, w.fewer); place = omega (arith, w.place, some) }
+  past (Err fault) = w
 
   -- and the cursor past it goes on in it
   pub within_on : Within from left (next_of s c).cursor

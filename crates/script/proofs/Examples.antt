@@ -6,7 +6,7 @@ use Rattle.script.specs.declared.Step.TheVariants.{Tick, Write, Expand, Controls
 use Rattle.script.specs.declared.Part.TheVariants.{Ram, Rom, Colour}
 use Rattle.script.specs.declared.Item.{Item}
 use Rattle.script.specs.declared.Item.TheVariants.{Changes, Change, Steps, Do, Done, Refused}
-use Rattle.script.specs.Step.{allowed_if, step_decoded, step_of}
+use Rattle.script.specs.Step.{fault_number, allowed_if, step_decoded, step_of}
 use Rattle.script.specs.File.{count_of, change_of, end_of, changes, section, steps, script, run_of}
 
 -- no changes, then a count of steps and the bytes that follow it
@@ -40,7 +40,7 @@ pub record Examples : Type 0 where
   pub more : run_of (no_changes (1 ∷ 0 ∷ 0 ∷ 0 ∷ 0 ∷ 0 ∷ 0 ∷ 0 ∷ [])) ≡ after_none (Steps 1 ∷ Do Tick ∷ Refused 9 ∷ [])
 
 pub examples : Examples
-unfolding allowed_if step_decoded step_of count_of change_of end_of changes section steps script run_of
+unfolding fault_number allowed_if step_decoded step_of count_of change_of end_of changes section steps script run_of
 examples =
     record {
       ticks = refl;

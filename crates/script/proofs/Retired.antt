@@ -4,17 +4,18 @@ use mathlib.Core.Bool.{Bool, true, false}
 use mathlib.Core.List.{List, [], ◌∷◌, ◌++◌}
 use Prim.Native.Nat.{ℕ, zero, suc, ◌+◌, ◌<◌}
 use native.Mathlib.Omega.{arith}
+use Rattle.std.specs.Prelude.{Result, Ok, Err}
 use lib.Dec.{leb, ltb}
 use lib.ListN.{length, take, drop}
 use borrow.Author.Tests.{lt-ltb, le-ltb}
 use Rattle.laws.specs.Bytes.{word}
-use Rattle.script.specs.declared.Read.{Read}
-use Rattle.script.specs.declared.Read.TheVariants as read
+use Rattle.script.specs.declared.Step.{Step}
+use Rattle.script.specs.declared.Fault.{Fault}
 use Rattle.script.specs.declared.Part.{Part}
 use Rattle.script.specs.declared.Part.TheVariants as part
 use Rattle.script.specs.declared.Item.{Item}
 use Rattle.script.specs.declared.Item.TheVariants as item
-use Rattle.script.specs.Step.{step_decoded, step_of}
+use Rattle.script.specs.Step.{fault_number, step_decoded, step_of}
 use Rattle.script.specs.File.{size_of, count_of, change_of, end_of, after_count, after_step, changes, section, steps, script, run_of, room_of, place_after}
 use Rattle.script.proofs.Back.{there}
 
@@ -47,30 +48,30 @@ unfolding steps
 no_step s = refl
 
 short_step : (n : ℕ) (s : List ℕ) → length s < 5 → steps (suc n) s ≡ item.Refused 7 ∷ []
-unfolding steps step_of
+unfolding steps step_of fault_number
 short_step n s h = simp (lt-ltb (length s) 5 h)
 
 take_five : (m k a b c d : ℕ) (t : List ℕ) → take (5 + m) (k ∷ a ∷ b ∷ c ∷ d ∷ t) ≡ k ∷ a ∷ b ∷ c ∷ d ∷ take m t
 take_five m k a b c d t = ap (λ (n : ℕ). take n (k ∷ a ∷ b ∷ c ∷ d ∷ t)) (let five : 5 + m ≡ suc (suc (suc (suc (suc m)))) = omega arith in five)
 
-whole_step : (n k a b c d : ℕ) (t : List ℕ) (r : Read) → step_decoded k a b c d ≡ r → steps (suc n) (k ∷ a ∷ b ∷ c ∷ d ∷ t) ≡ after_step (steps n t) r
+whole_step : (n k a b c d : ℕ) (t : List ℕ) (r : Result Step Fault) → step_decoded k a b c d ≡ r → steps (suc n) (k ∷ a ∷ b ∷ c ∷ d ∷ t) ≡ after_step (steps n t) r
 unfolding steps
 whole_step n k a b c d t r q = ap (after_step (steps n t)) (there k a b c d t ∙ q)
 
 -- one step more, where the steps after it are cut so
-full : (n k a b c d : ℕ) (t : List ℕ) → Cuts (steps n) → (r : Read) → step_decoded k a b c d ≡ r → (xs : List Item) → after_step (steps n t) r ≡ ending xs 10
+full : (n k a b c d : ℕ) (t : List ℕ) → Cuts (steps n) → (r : Result Step Fault) → step_decoded k a b c d ≡ r → (xs : List Item) → after_step (steps n t) r ≡ ending xs 10
     → steps (suc n) (take (place_after xs) (k ∷ a ∷ b ∷ c ∷ d ∷ t)) ≡ ending xs 7
 unfolding place_after room_of
-full n k a b c d t rest (read.Got step) q [] e = absurd (let z : ◌≡◌ {A = ℕ} 0 1 = cc in omega arith)
-full n k a b c d t rest (read.Got step) q (x ∷ xs) e =
+full n k a b c d t rest (Ok step) q [] e = absurd (let z : ◌≡◌ {A = ℕ} 0 1 = cc in omega arith)
+full n k a b c d t rest (Ok step) q (x ∷ xs) e =
     let here : item.Do step ≡ x = cc in
     let later : steps n t ≡ ending xs 10 = cc in
     rw (← here)
     (ap (steps (suc n)) (take_five (place_after xs) k a b c d t)
-    ∙ whole_step n k a b c d (take (place_after xs) t) (read.Got step) q
+    ∙ whole_step n k a b c d (take (place_after xs) t) (Ok step) q
     ∙ ap (λ (l : List Item). item.Do step ∷ l) (rest t xs later))
-full n k a b c d t rest (read.Refused number) q [] e = short_step n [] (omega arith)
-full n k a b c d t rest (read.Refused number) q (x ∷ xs) e = absurd (never_empty xs 10 (let none : ◌≡◌ {A = List Item} [] (ending xs 10) = cc in none))
+full n k a b c d t rest (Err fault) q [] e = short_step n [] (omega arith)
+full n k a b c d t rest (Err fault) q (x ∷ xs) e = absurd (never_empty xs 10 (let none : ◌≡◌ {A = List Item} [] (ending xs 10) = cc in none))
 
 too_short : (n : ℕ) (s : List ℕ) (xs : List Item) → length s < 5 → steps (suc n) s ≡ ending xs 10 → ⊥
 too_short n s xs h e = omega (arith, other_number 7 xs (sym (short_step n s h) ∙ e))
@@ -92,15 +93,15 @@ module _ (says : ℕ → Item) (more : ℕ → List ℕ → List Item) (most : �
   counted s = after_count says (λ n. more n (drop 2 s)) (count_of most s)
 
   short_count : (s : List ℕ) → length s < 2 → counted s ≡ item.Refused 7 ∷ []
-  unfolding counted count_of
+  unfolding counted count_of fault_number
   short_count s h = simp (lt-ltb (length s) 2 h)
 
   high_count : (x y : ℕ) (t : List ℕ) → ltb most (word x y) ≡ true → counted (x ∷ y ∷ t) ≡ item.Refused 8 ∷ []
-  unfolding counted count_of
+  unfolding counted count_of fault_number
   high_count x y t q = simp (le-ltb (length (x ∷ y ∷ t)) 2 (omega arith), q)
 
   whole_count : (x y : ℕ) (t : List ℕ) → ltb most (word x y) ≡ false → counted (x ∷ y ∷ t) ≡ says (word x y) ∷ more (word x y) t
-  unfolding counted count_of
+  unfolding counted count_of fault_number
   whole_count x y t q = simp (le-ltb (length (x ∷ y ∷ t)) 2 (omega arith), q)
 
   module _ (two : (n : ℕ) → room_of (says n) ≡ 2) (good : (n : ℕ) → says n ≡ item.Refused 10 → ⊥) (rest : (n : ℕ) → Cuts (more n)) where
@@ -132,16 +133,16 @@ module _ (memory : Part) (more : List ℕ → List Item) (rest : Cuts more) wher
   no_change s = refl
 
   short_change : (n : ℕ) (s : List ℕ) → length s < 3 → changes memory more (suc n) s ≡ item.Refused 7 ∷ []
-  unfolding changes change_of
+  unfolding changes change_of fault_number
   short_change n s h = simp (lt-ltb (length s) 3 h)
 
   past_change : (n x y v : ℕ) (t : List ℕ) → leb (size_of memory) (word x y) ≡ true → changes memory more (suc n) (x ∷ y ∷ v ∷ t) ≡ item.Refused 8 ∷ []
-  unfolding changes change_of
+  unfolding changes change_of fault_number
   past_change n x y v t q = simp (le-ltb (length (x ∷ y ∷ v ∷ t)) 3 (omega arith), q)
 
   whole_change : (n x y v : ℕ) (t : List ℕ) → leb (size_of memory) (word x y) ≡ false
       → changes memory more (suc n) (x ∷ y ∷ v ∷ t) ≡ item.Change memory (word x y) v ∷ changes memory more n t
-  unfolding changes change_of
+  unfolding changes change_of fault_number
   whole_change n x y v t q = simp (le-ltb (length (x ∷ y ∷ v ∷ t)) 3 (omega arith), q)
 
   by_size : (n x y v : ℕ) (t : List ℕ) → Cuts (changes memory more n) → (past : Bool) → leb (size_of memory) (word x y) ≡ past → (xs : List Item)

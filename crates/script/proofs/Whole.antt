@@ -4,15 +4,13 @@ use mathlib.Core.Bool.{Bool, true, false, cond}
 use mathlib.Core.List.{List, [], ◌∷◌}
 use Prim.Native.Nat.{ℕ, zero, suc, ◌+◌, ◌-◌, ◌≤◌, ◌<◌}
 use native.Mathlib.Omega.{arith}
+use Rattle.std.specs.Prelude.{Result, Ok, Err}
 use lib.Dec.{eqb-suc-zero}
 use lib.ListN.{length, drop}
 use lib.Seq.{drop-drop}
-use Rattle.script.specs.declared.Read.{Read}
-use Rattle.script.specs.declared.Read.TheVariants as read
-use Rattle.script.specs.declared.Count.{Count}
-use Rattle.script.specs.declared.Count.TheVariants as count
-use Rattle.script.specs.declared.Change.{Change}
-use Rattle.script.specs.declared.Change.TheVariants as change
+use Rattle.script.specs.declared.Step.{Step}
+use Rattle.script.specs.declared.Fault.{Fault}
+use Rattle.script.specs.declared.Changed.{Changed}
 use Rattle.script.specs.declared.Part.{Part}
 use Rattle.script.specs.declared.Part.TheVariants as part
 use Rattle.script.specs.declared.Item.{Item}
@@ -50,24 +48,24 @@ never e = absurd (let z : ◌≡◌ {A = Bool} true false = e in let n : ◌≡�
 
 module _ (s : List ℕ) (c : Cursor) where
   at_count : (says : ℕ → Item) (more : ℕ → List ℕ → List Item) (most : ℕ) (next : Part) → ((n : ℕ) → is_last (says n) ≡ false) → ((n : ℕ) (t : List ℕ) → ahead next n t ≡ more n t)
-      → (k : Count) → count_of most (drop c.at s) ≡ k → Turn s c (after_count says (λ n. more n (drop 2 (drop c.at s))) k) (count_from c says next k)
-  at_count says more most next goes same (count.Of n) e =
+      → (k : Result ℕ Fault) → count_of most (drop c.at s) ≡ k → Turn s c (after_count says (λ n. more n (drop 2 (drop c.at s))) k) (count_from c says next k)
+  at_count says more most next goes same (Ok n) e =
       record { says = simp (goes n, same, drop-drop); onward = λ _. record { further = omega arith; inside = count_room s c.at most n e } }
-  at_count says more most next goes same (count.Refused number) e = record { says = refl; onward = never }
+  at_count says more most next goes same (Err fault) e = record { says = refl; onward = never }
 
   at_change : (more : List ℕ → List Item) (memory : Part) (n : ℕ) → c.left ≡ suc n → ((n : ℕ) (t : List ℕ) → ahead memory n t ≡ changes memory more n t)
-      → (k : Change) → change_of (size_of memory) (drop c.at s) ≡ k → Turn s c (after_change memory (changes memory more n (drop 3 (drop c.at s))) k) (change_from c memory k)
-  at_change more memory n l same (change.Set address value) e =
+      → (k : Result Changed Fault) → change_of (size_of memory) (drop c.at s) ≡ k → Turn s c (after_change memory (changes memory more n (drop 3 (drop c.at s))) k) (change_from c memory k)
+  at_change more memory n l same (Ok change) e =
       let left : c.left - 1 ≡ n = omega arith in
-      record { says = simp (same, left, drop-drop); onward = λ _. record { further = omega arith; inside = change_room s c.at (size_of memory) address value e } }
-  at_change more memory n l same (change.Refused number) e = record { says = refl; onward = never }
+      record { says = simp (same, left, drop-drop); onward = λ _. record { further = omega arith; inside = change_room s c.at (size_of memory) change e } }
+  at_change more memory n l same (Err fault) e = record { says = refl; onward = never }
 
-  at_step_lem : (n : ℕ) → c.left ≡ suc n → (k : Read) → step_of (drop c.at s) ≡ k → Turn s c (after_step (steps n (drop 5 (drop c.at s))) k) (step_from c k)
+  at_step_lem : (n : ℕ) → c.left ≡ suc n → (k : Result Step Fault) → step_of (drop c.at s) ≡ k → Turn s c (after_step (steps n (drop 5 (drop c.at s))) k) (step_from c k)
   unfolding ahead
-  at_step_lem n l (read.Got step) e =
+  at_step_lem n l (Ok step) e =
       let left : c.left - 1 ≡ n = omega arith in
       record { says = simp (left, drop-drop); onward = λ _. record { further = omega arith; inside = step_room s c.at step e } }
-  at_step_lem n l (read.Refused number) e = record { says = refl; onward = never }
+  at_step_lem n l (Err fault) e = record { says = refl; onward = never }
 
   at_end : (t : List ℕ) → Turn s c (end_of t ∷ []) (stays c (end_of t))
   unfolding end_of

@@ -1,17 +1,15 @@
 -- What a run file says: its sections in their order.
-use Rattle.std.specs.Prelude.{ℕ, zero, suc, ◌+◌, cond, List, [], ◌∷◌, leb, ltb, length, get_or, drop}
+use Rattle.std.specs.Prelude.{ℕ, zero, suc, ◌+◌, cond, List, [], ◌∷◌, leb, ltb, length, get_or, drop, Result, Ok, Err}
 use Rattle.laws.specs.Bytes.{word}
-use Rattle.script.specs.declared.Read.{Read}
-use Rattle.script.specs.declared.Read.TheVariants as read
-use Rattle.script.specs.declared.Count.{Count}
-use Rattle.script.specs.declared.Count.TheVariants as count
-use Rattle.script.specs.declared.Change.{Change}
-use Rattle.script.specs.declared.Change.TheVariants as change
+use Rattle.script.specs.declared.Step.{Step}
+use Rattle.script.specs.declared.Fault.{Fault}
+use Rattle.script.specs.declared.Fault.TheVariants as fault
+use Rattle.script.specs.declared.Changed.{Changed}
 use Rattle.script.specs.declared.Part.{Part}
 use Rattle.script.specs.declared.Part.TheVariants as part
 use Rattle.script.specs.declared.Item.{Item}
 use Rattle.script.specs.declared.Item.TheVariants as item
-use Rattle.script.specs.Step.{step_of}
+use Rattle.script.specs.Step.{fault_number, step_of}
 
 -- ---- one record
 
@@ -24,17 +22,17 @@ size_of part.Colour = 1024
 size_of part.Steps = 0
 
 -- 01, Run file; DECISIONS 33: a count is 8 above its limit as soon as its two bytes are there
-unfoldable pub count_of : ℕ → List ℕ → Count
+unfoldable pub count_of : ℕ → List ℕ → Result ℕ Fault
 count_of most s =
     let n = word (get_or s 0 0) (get_or s 1 0) in
-    cond (ltb (length s) 2) (count.Refused 7) (cond (ltb most n) (count.Refused 8) (count.Of n))
+    cond (ltb (length s) 2) (Err fault.Early) (cond (ltb most n) (Err fault.NotAllowed) (Ok n))
 
 -- 01, Run file; DECISIONS 33: an address is judged once its record is there; past its memory it is 8
-unfoldable pub change_of : ℕ → List ℕ → Change
+unfoldable pub change_of : ℕ → List ℕ → Result Changed Fault
 change_of size s =
     let address = word (get_or s 0 0) (get_or s 1 0) in
-    cond (ltb (length s) 3) (change.Refused 7)
-    (cond (leb size address) (change.Refused 8) (change.Set address (get_or s 2 0)))
+    cond (ltb (length s) 3) (Err fault.Early)
+    (cond (leb size address) (Err fault.NotAllowed) (Ok record { address = address; value = get_or s 2 0 }))
 
 -- 01, Numbers: 9 for bytes after the last step
 unfoldable pub end_of : List ℕ → Item
@@ -42,13 +40,13 @@ end_of [] = item.Done
 end_of (x ∷ s) = item.Refused 9
 
 -- 01, Numbers: the number of each answer, 0 where nothing is refused
-unfoldable pub number_of_count : Count → ℕ
-number_of_count (count.Of n) = 0
-number_of_count (count.Refused number) = number
+unfoldable pub number_of_count : Result ℕ Fault → ℕ
+number_of_count (Ok n) = 0
+number_of_count (Err fault) = fault_number fault
 
-unfoldable pub number_of_change : Change → ℕ
-number_of_change (change.Set address value) = 0
-number_of_change (change.Refused number) = number
+unfoldable pub number_of_change : Result Changed Fault → ℕ
+number_of_change (Ok change) = 0
+number_of_change (Err fault) = fault_number fault
 
 unfoldable pub number_of_item : Item → ℕ
 number_of_item (item.Changes memory n) = 0
@@ -61,17 +59,17 @@ number_of_item (item.Refused number) = number
 -- ---- the file
 
 -- 01, Run file: faults are taken as met, so that nothing follows a refusal
-abbrev pub after_count : (ℕ → Item) → (ℕ → List Item) → Count → List Item
-after_count says more (count.Of n) = says n ∷ more n
-after_count says more (count.Refused number) = item.Refused number ∷ []
+abbrev pub after_count : (ℕ → Item) → (ℕ → List Item) → Result ℕ Fault → List Item
+after_count says more (Ok n) = says n ∷ more n
+after_count says more (Err fault) = item.Refused (fault_number fault) ∷ []
 
-abbrev pub after_change : Part → List Item → Change → List Item
-after_change memory more (change.Set address value) = item.Change memory address value ∷ more
-after_change memory more (change.Refused number) = item.Refused number ∷ []
+abbrev pub after_change : Part → List Item → Result Changed Fault → List Item
+after_change memory more (Ok change) = item.Change memory change.address change.value ∷ more
+after_change memory more (Err fault) = item.Refused (fault_number fault) ∷ []
 
-abbrev pub after_step : List Item → Read → List Item
-after_step more (read.Got step) = item.Do step ∷ more
-after_step more (read.Refused number) = item.Refused number ∷ []
+abbrev pub after_step : List Item → Result Step Fault → List Item
+after_step more (Ok step) = item.Do step ∷ more
+after_step more (Err fault) = item.Refused (fault_number fault) ∷ []
 
 -- 01, Run file: so many changes of a memory, and what comes after them
 unfoldable pub changes : Part → (List ℕ → List Item) → ℕ → List ℕ → List Item

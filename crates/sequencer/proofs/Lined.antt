@@ -7,8 +7,7 @@ use native.Mathlib.Omega.{arith}
 use native.Mathlib.Numerals.{add-one}
 use native.Mathlib.Nat.{add_comm, suc-mul, div-mul-le_self}
 use lib.Dec.{eqb}
-use lib.ListN.{length}
-use borrow.Author.Tests.{eqb-true, eqb-false, ne_eqb, eq-eqb}
+use borrow.Author.Tests.{eqb-true, eqb-false, ne_eqb}
 use Rattle.laws.proofs.Choice.{by_test}
 use Rattle.schedule.specs.Kind.{known, kind_of, last_cycle}
 use Rattle.schedule.proofs.Places.{last_least}
@@ -20,14 +19,14 @@ use Rattle.chip.specs.declared.Chip.{Chip}
 use Rattle.chip.specs.declared.Answer.{Answer}
 use Rattle.chip.specs.Chip.{answer, reading}
 use Rattle.chip.specs.Accept.{accepted, state_refusal}
-use Rattle.chip.proofs.Fine.{taken_accepted, accepted_taken, unaccepted_3, unknown_12, only_unknown_12}
+use Rattle.chip.proofs.Fine.{taken_accepted, accepted_taken, unaccepted_3, unknown_12}
 use Rattle.world.specs.World.{World, world_of, chip_of}
 use Rattle.lines.specs.Whole.{line_world}
 use Rattle.sequencer.specs.Tick.{ticks_from}
 use Rattle.sequencer.specs.Line.{line_chip, at_line_end, lineable, line_refusal, lined, lines_from}
 use Rattle.sequencer.specs.Machinery.Parts.{Held, sound_refusal, tested_from}
 use Rattle.sequencer.proofs.Numbers.{run_kind}
-use Rattle.sequencer.proofs.Runs.{none, only_tested, sound_passes, tested_some}
+use Rattle.sequencer.proofs.Runs.{none, tested_some}
 use Rattle.sequencer.proofs.Staged.{some_after}
 use Rattle.sequencer.proofs.Until as Until
 use Rattle.sequencer.proofs.Whole.{Whole, whole_line, held_on, line_at}
@@ -186,16 +185,9 @@ module _ (h : Host) (c : Chip) where
   pub lines_none : (n : ℕ) → n ≡ 0 → answer 0 c ≡ lines_from h n c
   lines_none n e = rw e (sym (no_lines h c))
 
-  -- what a call that only tests answers: refused, it is the refusal of the lines
-  pub lines_unsound : (n : ℕ) {a : Answer} → a ≡ tested_from h 0 c → (a.refused ≡ 0 → ⊥) → (n ≡ 0 → ⊥) → a ≡ lines_from h n c
-  lines_unsound n {a} e nz nn =
-      let told = e ∙ only_tested h c in
-      let z : (sound_refusal h c ≡ 0 → ⊥) = λ q. nz (ap (λ (b : Answer). b.refused) told ∙ q) in
-      told ∙ lines_refused (sound_refusal h c) n (sound_first z) z nn
-
-  -- and else nothing lent and no state is refused
-  pub sound_told : {a : Answer} → a ≡ tested_from h 0 c → a.refused ≡ 0 → (lent_refusal h ≡ 0) × (accepted c ≡ true)
-  sound_told {a} e z = sound_passes h c (sym (ap (λ (b : Answer). b.refused) (e ∙ only_tested h c)) ∙ z)
+  -- what is lent or the state refused, it is the refusal of the lines
+  pub lines_unsound : (n : ℕ) {r : ℕ} → r ≡ sound_refusal h c → (r ≡ 0 → ⊥) → (n ≡ 0 → ⊥) → answer r c ≡ lines_from h n c
+  lines_unsound n {r} e nz nn = lines_refused r n (sound_first (λ q. nz (e ∙ q)) ∙ sym e) nz nn
 
   pub lines_mid : (n : ℕ) → (lent_refusal h ≡ 0) × (accepted c ≡ true) → (c.side.beam.cycle ≡ last_cycle (kind_of c.side.beam.kind) → ⊥) → (n ≡ 0 → ⊥) → answer 11 c ≡ lines_from h n c
   lines_mid n p z nn = lines_refused 11 n (line_11_then h c p.0 p.1 (ne_eqb c.side.beam.cycle (last_cycle (kind_of c.side.beam.kind)) z)) (λ q. absurd (omega (arith, q))) nn
@@ -214,15 +206,13 @@ module _ (h : Host) (g : Registers) (w₀ : World) (n : ℕ) where
     next_line_lem : lines_from h (suc i) (chip_of g w₀) ≡ lined h (chip_of g w)
     next_line_lem = Until.next (lined h) (lines_from h) (no_lines h) (more_lines h) (chip_of g w₀) (chip_of g w) i r.state
 
-    pub line_on : {v : World} → i < n → lineable (kind_of w.side.beam.kind) w.side.bus.clock ≡ true → v ≡ line_world h g w
-        → length v.matrix ≡ length w.matrix → length v.pointers ≡ length w.pointers → length v.bytes ≡ length w.bytes → length v.words ≡ length w.words
-        → Lining v (i + 1)
-    line_on {v} l can e a b c d =
+    pub line_on : {v : World} → i < n → lineable (kind_of w.side.beam.kind) w.side.bus.clock ≡ true → v ≡ line_world h g w → Lining v (i + 1)
+    line_on {v} l can e =
         let z = line_0_then h (chip_of g w) r.held.free r.held.fine r.at can in
         record {
           within = omega arith;
           state = rw (add-one, e) (next_line_lem ∙ line_answers h (chip_of g w) z);
-          held = held_on r.held r.at can e a b c d;
+          held = held_on r.held r.at can e;
           at = rw e (line_at h g w);
         }
 

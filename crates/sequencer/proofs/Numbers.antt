@@ -19,7 +19,7 @@ use Rattle.chip.specs.Accept.{accepted, state_refusal}
 use Rattle.chip.proofs.Fine.{taken_accepted, unknown_12, only_unknown_12}
 use Rattle.world.specs.Tick.{tick_world, tick_of}
 use Rattle.sequencer.specs.Tick.{tickable, tick_refusal, ticked, ticks_from}
-use Rattle.sequencer.proofs.Runs.{tested_state, tested_some}
+use Rattle.sequencer.proofs.Runs.{sound_state, tested_unsound, tested_some}
 
 abbrev AtMost : ℕ → ℕ → Type 0
 AtMost m n = n ≤ m
@@ -80,7 +80,7 @@ module _ (h : Host) (c : Chip) where
 
   -- a run of at least one tick is refused at once, with the state unchanged; so is a tick, which is a run of one
   pub ticks_12_then : (n : ℕ) → (n ≡ 0 → ⊥) → lent_refusal h ≡ 0 → known c.side.beam.kind ≡ false → answer 12 c ≡ ticks_from h n c
-  ticks_12_then n some l k = tested_state h c n l (sym (unknown_12 c k)) (λ z. omega arith) ∙ tested_some h c n some
+  ticks_12_then n some l k = tested_unsound h c n (sym (unknown_12 c k) ∙ sound_state h c l) (λ z. omega arith) ∙ tested_some h c n some
 
 -- no tick changes the kind
 tick_kind : (h : Host) (c : Chip) → (tick_of h c).side.beam.kind ≡ c.side.beam.kind

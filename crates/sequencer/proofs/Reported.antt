@@ -7,7 +7,7 @@ use mathlib.Core.Logic.{◌⊎◌, inl, inr}
 use native.Mathlib.Omega.{arith}
 use lib.Dec.{eqb}
 use lib.ListN.{length, length-map}
-use borrow.Author.Tests.{ne_eqb, eqb-true}
+use borrow.Author.Tests.{ne_eqb}
 use Rattle.laws.proofs.Choice.{by_test}
 use Rattle.schedule.specs.Kind.{kind_of}
 use Rattle.schedule.specs.Diagram.{happens, refresh}

@@ -1,17 +1,15 @@
 -- A run of ticks: what it holds from tick to tick, and how it ends. Assumes nothing.
-use Prim.Native.Nat.{ℕ, zero, suc, ◌+◌, ◌<◌, ◌≤◌}
+use Prim.Native.Nat.{ℕ, suc, ◌+◌, ◌<◌, ◌≤◌}
 use mathlib.Core.Path.{◌≡◌, refl, sym, ap, ◌∙◌}
 use mathlib.Core.Bool.{Bool, true, false, cond}
 use mathlib.Core.List.{[]}
 use native.Mathlib.Omega.{arith}
 use native.Mathlib.Numerals.{add-one}
 use lib.Dec.{eqb}
-use lib.ListN.{length}
 use borrow.Author.Tests.{eqb-true, eqb-false, ne_eqb}
 use Rattle.laws.proofs.Choice.{by_test}
 use Rattle.schedule.specs.Kind.{kind_of}
 use Rattle.schedule.proofs.Places.{last_most}
-use Rattle.memory.proofs.Lent.{host_lent, host_colour}
 use Rattle.memory.specs.Lent.{Host, lent_refusal}
 use Rattle.registers.specs.declared.Registers.{Registers}
 use Rattle.access.specs.declared.Reads.{Reads}
@@ -20,7 +18,7 @@ use Rattle.chip.specs.declared.Chip.{Chip}
 use Rattle.chip.specs.declared.Answer.{Answer}
 use Rattle.chip.specs.Accept.{accepted, state_refusal}
 use Rattle.chip.specs.Chip.{answer, reading}
-use Rattle.world.specs.World.{World, chip_of}
+use Rattle.world.specs.World.{World, world_of, chip_of}
 use Rattle.world.specs.Tick.{tick_world, tick_reads}
 use Rattle.sequencer.specs.Tick.{tickable, tick_refusal, ticked, ticks_from}
 use Rattle.sequencer.specs.Machinery.Parts.{Ready, Held, sound_refusal, tested_from, answered}
@@ -30,14 +28,8 @@ use Rattle.sequencer.proofs.Clock.{tickable_can}
 use Rattle.sequencer.proofs.Until as Until
 use Rattle.sequencer.proofs.Kept.{world_kept}
 
-pub ready : {h : Host} {g : Registers} {w : World} → Held h g w → tickable w.side.bus.clock ≡ true → Ready h w
+pub ready : {h : Host} {g : Registers} {w : World} → Held h g w → tickable w.side.bus.clock ≡ true → Ready w
 ready {h} {g} {w} held t = record {
-  lent = host_lent h held.free;
-  colour = host_colour h held.free;
-  forty = held.forty;
-  eight = held.eight;
-  threes = held.threes;
-  eight_words = held.eight_words;
   clock = tickable_can _ (accepted_clock (chip_of g w) held.fine) t;
   forced = clock_fine_range _ (accepted_forced (chip_of g w) held.fine);
   lost = let fine = (accepted_fine (chip_of g w) held.fine).side in omega (arith, fine.lost, fine.last, last_most (kind_of w.side.beam.kind));
@@ -91,32 +83,29 @@ module _ (h : Host) (c : Chip) where
       passes true p e = (eqb-true (lent_refusal h) 0 p, taken_accepted c e)
       passes false p e = absurd (eqb-false (lent_refusal h) 0 p e)
 
-  -- a call that tests, with no tick to do
-  pub only_tested : tested_from h 0 c ≡ answer (sound_refusal h c) c
-  unfolding tested_from
-  only_tested = by_test (λ (a : Answer). a ≡ answer (sound_refusal h c) c) (eqb (sound_refusal h c) 0)
-      (λ e. none h c ∙ ap (λ (n : ℕ). answer n c) (sym (eqb-true (sound_refusal h c) 0 e)))
-      (λ e. refl)
+  pub sound_lent : (lent_refusal h ≡ 0 → ⊥) → lent_refusal h ≡ sound_refusal h c
+  unfolding sound_refusal
+  sound_lent nz = rw (ne_eqb (lent_refusal h) 0 nz)
+
+  pub sound_state : lent_refusal h ≡ 0 → state_refusal c ≡ sound_refusal h c
+  unfolding sound_refusal
+  sound_state e = rw e
+
+  -- what a run may begin with
+  pub sound_held : sound_refusal h c ≡ 0 → Held h c.regs (world_of c)
+  sound_held e = let p = sound_passes e in record { free = p.0; fine = p.1 }
 
   module _ (n : ℕ) where
     pub no_ticks : n ≡ 0 → answer 0 c ≡ ticks_from h n c
     no_ticks e = rw e (sym (none h c))
 
-    unsound : {r : ℕ} → sound_refusal h c ≡ r → (r ≡ 0 → ⊥) → answer r c ≡ tested_from h n c
+    pub tested_unsound : {r : ℕ} → r ≡ sound_refusal h c → (r ≡ 0 → ⊥) → answer r c ≡ tested_from h n c
     unfolding tested_from
-    unsound {r} e nz = rw (e, ne_eqb r 0 nz)
+    tested_unsound {r} e nz = rw (← e, ne_eqb r 0 nz)
 
-    pub tested_lent : {r : ℕ} → r ≡ lent_refusal h → (r ≡ 0 → ⊥) → answer r c ≡ tested_from h n c
-    unfolding sound_refusal
-    tested_lent {r} e nz = unsound (rw (← e, ne_eqb r 0 nz)) nz
-
-    pub tested_state : {r : ℕ} → lent_refusal h ≡ 0 → r ≡ state_refusal c → (r ≡ 0 → ⊥) → answer r c ≡ tested_from h n c
-    unfolding sound_refusal
-    tested_state {r} l e nz = unsound (rw (l, e)) nz
-
-    pub tested_taken : lent_refusal h ≡ 0 → state_refusal c ≡ 0 → ticks_from h n c ≡ tested_from h n c
-    unfolding tested_from sound_refusal
-    tested_taken l s = rw (l, s)
+    pub tested_sound : sound_refusal h c ≡ 0 → ticks_from h n c ≡ tested_from h n c
+    unfolding tested_from
+    tested_sound e = rw e
 
     -- with a tick to do it is the run of ticks
     pub tested_some : (n ≡ 0 → ⊥) → tested_from h n c ≡ ticks_from h n c
@@ -144,19 +133,11 @@ module _ (h : Host) (g : Registers) (w₀ : World) (n : ℕ) where
   late w held t = rw (held.free, accepted_taken (chip_of g w) held.fine, t)
 
   pub on : {w v : World} {i : ℕ} {r r' : Reads} → Going w i r → i < n → tickable w.side.bus.clock ≡ true → v ≡ tick_world h g w → r' ≡ told (tick_reads h g w)
-      → length v.matrix ≡ length w.matrix → length v.pointers ≡ length w.pointers → length v.bytes ≡ length w.bytes → length v.words ≡ length w.words
       → Going v (i + 1) r'
-  on {w} {v} {i} r l t e f a b c d = record {
+  on {w} {v} {i} r l t e f = record {
     within = omega arith;
     state = rw (add-one, e, f) (next h (chip_of g w₀) (chip_of g w) i r.state ∙ taken w r.held t);
-    held = record {
-      free = r.held.free;
-      forty = a ∙ r.held.forty;
-      eight = b ∙ r.held.eight;
-      threes = c ∙ r.held.threes;
-      eight_words = d ∙ r.held.eight_words;
-      fine = rw e (world_kept h g w r.held.fine t);
-    };
+    held = record { free = r.held.free; fine = rw e (world_kept h g w r.held.fine t) };
   }
 
   pub no_more : {w : World} {i : ℕ} {r : Reads} → Going w i r → i < n → tickable w.side.bus.clock ≡ false → answer 4 (chip_of g w) ≡ ticks_from h n (chip_of g w₀)

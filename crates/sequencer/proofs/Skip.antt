@@ -6,7 +6,6 @@ use mathlib.Core.List.{List}
 use native.Mathlib.Omega.{arith}
 use lib.Dec.{eqb, leb, ltb}
 use lib.IntN.{ℤ, pos, negsuc}
-use lib.ListN.{length}
 use borrow.Author.Tests.{leb-true, le-leb, ltb-true, ltb-false, lt-ltb, le-ltb, not-true, not-false}
 use Rattle.laws.specs.Clock.{InRange, CanTick}
 use Rattle.laws.proofs.Choice.{left, right, by_test}
@@ -32,7 +31,7 @@ use Rattle.access.specs.Reads.{told}
 use Rattle.picture.specs.declared.Pen.{Pen}
 use Rattle.picture.specs.Pen.{pen_after}
 use Rattle.picture.specs.Reads.{reads_by}
-use Rattle.picture.proofs.Laws.{matrix_length, slotted_pointers, slotted_bytes, slotted_words, no_slot, changing_over}
+use Rattle.picture.proofs.Laws.{no_slot, changing_over}
 use Rattle.picture.proofs.Plain.{Plain, plain_matrix, pen_again, reads_again}
 use Rattle.engine.specs.declared.Core.{Core}
 use Rattle.world.specs.World.{World, chip_of}
@@ -141,22 +140,6 @@ module _ (h : Host) (g : Registers) where
       (sym (quiet_reads (world_later k ticked) first) ∙ turns ∙ pens ∙ quiet_reads (world_later (suc k) w) last)
 
   module _ (w : World) where
-    tick_matrix : length (tick_world h g w).matrix ≡ length w.matrix
-    unfolding tick_world
-    tick_matrix = matrix_length _ _ _ _ _ _ _ _ _
-
-    tick_pointers : length (tick_world h g w).pointers ≡ length w.pointers
-    unfolding tick_world
-    tick_pointers = slotted_pointers _ _ _ _ _ _ _ _
-
-    tick_bytes : length (tick_world h g w).bytes ≡ length w.bytes
-    unfolding tick_world
-    tick_bytes = slotted_bytes _ _ _ _ _ _ _ _
-
-    tick_words : length (tick_world h g w).words ≡ length w.words
-    unfolding tick_world
-    tick_words = slotted_words _ _ _ _ _ _ _ _
-
     tick_cycle : (tick_world h g w).side.beam.cycle ≡ next_cycle (kind_of w.side.beam.kind) w.side.beam.cycle
     unfolding tick_world
     tick_cycle = side_cycle _ w.side
@@ -221,16 +204,10 @@ room_later k m (pos n) l r = rw (clock_on_lem k n) (omega arith)
 room_later k m (negsuc n) l r = absurd r
 
 module _ (h : Host) (g : Registers) (goes : ℕ → Bool) (w₀ : World) (n : ℕ) where
-  pub ready_later : {w : World} {i : ℕ} {r : Reads} (k : ℕ) → Parting h g goes w₀ n w i r → i + k < n → Ready h (world_later k w)
+  pub ready_later : {w : World} {i : ℕ} {r : Reads} (k : ℕ) → Parting h g goes w₀ n w i r → i + k < n → Ready (world_later k w)
   ready_later {w} {i} k p l =
       let r = ready p.going.held (tickable_now h g goes w₀ n p (omega arith)) in
       record {
-        lent = r.lent;
-        colour = r.colour;
-        forty = r.forty;
-        eight = r.eight;
-        threes = r.threes;
-        eight_words = r.eight_words;
         clock = room_later k (n - i) w.side.bus.clock (omega arith) p.room;
         forced = r.forced;
         lost = r.lost;
@@ -240,23 +217,21 @@ module _ (h : Host) (g : Registers) (goes : ℕ → Bool) (w₀ : World) (n : �
   pub further_by : (k : ℕ) {w v : World} {i : ℕ} {r r' : Reads} → Parting h g goes w₀ n w i r → i + k < n
       → (0 < k → Able g w × (w.side.beam.cycle + k ≤ 53))
       → v ≡ tick_world h g (world_later k w) → r' ≡ told (tick_reads h g (world_later k w))
-      → length v.matrix ≡ length w.matrix → length v.pointers ≡ length w.pointers → length v.bytes ≡ length w.bytes → length v.words ≡ length w.words
       → Parting h g goes w₀ n v (i + 1 + k) r'
-  further_by zero {w} {v} {i} p l f e s a b c d =
+  further_by zero {w} {v} {i} p l f e s =
       let q : i + 1 + 0 ≡ i + 1 = omega arith in
       let none = later_none h g p.going.held in
-      rw q (further h g goes w₀ n p (omega arith) (e ∙ ap (tick_world h g) none) (s ∙ ap (λ (u : World). told (tick_reads h g u)) none) a b c d)
-  further_by (suc k) {w} {v} {i} p l f e s a b c d =
+      rw q (further h g goes w₀ n p (omega arith) (e ∙ ap (tick_world h g) none) (s ∙ ap (λ (u : World). told (tick_reads h g u)) none))
+  further_by (suc k) {w} {v} {i} p l f e s =
       let able' = (f (omega arith)).0 in
       let high : w.side.beam.cycle + suc k ≤ 53 = (f (omega arith)).1 in
       let x = tick_world h g w in
-      let on = further h g goes w₀ n p (omega arith) refl refl (tick_matrix h g w) (tick_pointers h g w) (tick_bytes h g w) (tick_words h g w) in
+      let on = further h g goes w₀ n p (omega arith) refl refl in
       let range = (accepted_fine (chip_of g w) p.going.held.fine).side.clock in
       let next : x.side.beam.cycle ≡ w.side.beam.cycle + 1 = tick_cycle h g w ∙ next_cycle_lem h g able' in
       let q : i + 1 + suc k ≡ i + 1 + 1 + k = omega arith in
       rw q
-      (further_by k on (omega arith) (λ z. (able_on h g able' (omega arith), rw next (omega arith))) (e ∙ sym (step h g w k able' range high)) (s ∙ ap told (sym (step_reads h g w k able' range high)))
-      (a ∙ sym (tick_matrix h g w)) (b ∙ sym (tick_pointers h g w)) (c ∙ sym (tick_bytes h g w)) (d ∙ sym (tick_words h g w)))
+      (further_by k on (omega arith) (λ z. (able_on h g able' (omega arith), rw next (omega arith))) (e ∙ sym (step h g w k able' range high)) (s ∙ ap told (sym (step_reads h g w k able' range high))))
 
 -- what the code worked out of this
 module _ (able' : Bool) (cycle i n : ℕ) {k : ℕ} (e : k ≡ skipped able' cycle (n - i)) where

@@ -9,7 +9,6 @@ use native.Mathlib.Nat.{zero-add, suc-add}
 use lib.Dec.{eqb, leb}
 use lib.IntN.{ℤ, pos, negsuc}
 use lib.Signed.{lt_z}
-use lib.ListN.{length}
 use borrow.Author.Tests.{le-leb, leb-false, ltb-false, eqb-false}
 use Rattle.laws.specs.Clock.{last_tickable, CanTick}
 use Rattle.memory.specs.Lent.{Host}
@@ -80,23 +79,21 @@ module _ (h : Host) (g : Registers) (goes : ℕ → Bool) (w₀ : World) (n : �
   pub tickable_now : {w : World} {i : ℕ} {r : Reads} → Parting w i r → i < n → tickable w.side.bus.clock ≡ true
   tickable_now {w} {i} p l = room_now (n - i) w.side.bus.clock (omega arith) p.room
 
-  pub further : {w v : World} {i : ℕ} {r r' : Reads} → Parting w i r → i < n → v ≡ tick_world h g w → r' ≡ told (tick_reads h g w)
-      → length v.matrix ≡ length w.matrix → length v.pointers ≡ length w.pointers → length v.bytes ≡ length w.bytes → length v.words ≡ length w.words
-      → Parting v (i + 1) r'
-  further {w} {v} {i} p l e f a b c d = record {
-    going = on h g w₀ n p.going l (tickable_now p l) e f a b c d;
+  pub further : {w v : World} {i : ℕ} {r r' : Reads} → Parting w i r → i < n → v ≡ tick_world h g w → r' ≡ told (tick_reads h g w) → Parting v (i + 1) r'
+  further {w} {v} {i} p l e f = record {
+    going = on h g w₀ n p.going l (tickable_now p l) e f;
     room =
         let q : n - (i + 1) ≡ (n - i) - 1 = omega arith in
         rw (q, e, tick_clock h g w) (room_next (n - i) w.side.bus.clock (omega arith) p.room);
     first = λ z. absurd (omega arith);
   }
 
-  pub ended_at : {w : World} {i : ℕ} {r : Reads} → Parting w i r → n ≤ i → Part h g n (goes w₀.side.beam.cycle) w₀ i w r
+  pub ended_at : {w : World} {i : ℕ} {r : Reads} → Parting w i r → n ≤ i → Part h g n (goes w₀.side.beam.cycle) w₀ n w r
   ended_at {w} {i} p l = record {
-    within = p.going.within;
-    state = p.going.state;
+    within = omega arith;
+    state = let q : i ≡ n = omega (arith, p.going.within) in rw (← q) p.going.state;
     held = p.going.held;
-    moved = λ t z. omega arith;
+    moved = λ t z. z;
   }
 
   pub stopped_at : {w : World} {i : ℕ} {r : Reads} → Parting w i r → goes w.side.beam.cycle ≡ false → Part h g n (goes w₀.side.beam.cycle) w₀ i w r

@@ -5,24 +5,20 @@ use mathlib.Core.List.{[]}
 use mathlib.Core.Bool.{true, false≢true}
 use native.Mathlib.Omega.{arith}
 use lib.IntN.{ℤ, pos, negsuc}
-use lib.ListN.{length}
 use lib.Signed.{le_z}
 use borrow.Author.Tests.{eqb-true, eq-eqb, leb-true}
-use Rattle.laws.specs.Clock.{last_clock, InRange}
 use Rattle.schedule.specs.Kind.{Kind, the6569, the6567_r8, kind_of, last_cycle}
 use Rattle.memory.specs.Lent.{Host, lent_refusal}
-use Rattle.memory.proofs.Lent.{host_lent, host_colour}
 use Rattle.registers.specs.declared.Registers.{Registers}
 use Rattle.registers.specs.Control.{timed}
 use Rattle.access.specs.declared.Reads.{Reads}
 use Rattle.access.specs.Reads.{told}
-use Rattle.chip.specs.declared.Chip.{Chip}
 use Rattle.chip.specs.Chip.{reading}
 use Rattle.chip.specs.Accept.{clock_fine, accepted}
-use Rattle.chip.proofs.Fine.{accepted_fine, accepted_taken}
+use Rattle.chip.proofs.Fine.{accepted_fine}
 use Rattle.chip.proofs.Accepted.{accepted_clock}
 use Rattle.world.specs.World.{World, chip_of}
-use Rattle.world.specs.Tick.{tick_world, tick_reads}
+use Rattle.world.specs.Tick.{tick_reads}
 use Rattle.lines.specs.Whole.{line_world}
 use Rattle.lines.specs.Lines.{ticks_on}
 use Rattle.lines.proofs.Lines.{a_line_is_its_ticks, another_line_can_follow}
@@ -107,17 +103,11 @@ module _ (h : Host) (g : Registers) (w : World) (free : lent_refusal h ≡ 0) (f
       record { heard = t.heard; state = rw e at t.state; kept = rw e at t.kept }
 
 -- what the code of a line may lean on
-pub begins : {h : Host} {g : Registers} {w : World} → Held h g w → at_line_end w.side ≡ true → lineable (kind_of w.side.beam.kind) w.side.bus.clock ≡ true → Begins h w
+pub begins : {h : Host} {g : Registers} {w : World} → Held h g w → at_line_end w.side ≡ true → lineable (kind_of w.side.beam.kind) w.side.bus.clock ≡ true → Begins w
 begins {h} {g} {w} held at can =
     let f = accepted_fine (chip_of g w) held.fine in
     let k = kind_of w.side.beam.kind in
     record {
-      lent = host_lent h held.free;
-      colour = host_colour h held.free;
-      forty = held.forty;
-      eight = held.eight;
-      threes = held.threes;
-      eight_words = held.eight_words;
       side = f.side;
       cycle = eqb-true w.side.beam.cycle (last_cycle k) at;
       clock = takes (last_cycle k) w.side.bus.clock (line_room k w.side.bus.clock (accepted_clock (chip_of g w) held.fine) can);
@@ -125,17 +115,9 @@ begins {h} {g} {w} held at can =
     }
 
 module _ {h : Host} {g : Registers} {w v : World} (held : Held h g w) (at : at_line_end w.side ≡ true)
-    (can : lineable (kind_of w.side.beam.kind) w.side.bus.clock ≡ true) (e : v ≡ line_world h g w)
-    (a : length v.matrix ≡ length w.matrix) (b : length v.pointers ≡ length w.pointers) (c : length v.bytes ≡ length w.bytes) (d : length v.words ≡ length w.words) where
+    (can : lineable (kind_of w.side.beam.kind) w.side.bus.clock ≡ true) (e : v ≡ line_world h g w) where
   abbrev whole : Whole h g w held.free held.fine at can
   whole = whole_line h g w held.free held.fine at can
 
   pub held_on : Held h g v
-  held_on = record {
-    free = held.free;
-    forty = a ∙ held.forty;
-    eight = b ∙ held.eight;
-    threes = c ∙ held.threes;
-    eight_words = d ∙ held.eight_words;
-    fine = rw e whole.kept;
-  }
+  held_on = record { free = held.free; fine = rw e whole.kept }

@@ -2,27 +2,26 @@
 // A call asks nothing of its caller: what it does not take it refuses by number, with the state unchanged.
 #![tactic(auto)]
 
-ghost use Rattle.std.specs.Prelude.{◌≡◌, Bool, not, ◌-◌, ◌<◌, ◌≤◌, length, ℤ};
+ghost use Rattle.std.specs.Prelude.{◌≡◌, Bool, not, ◌-◌, ◌<◌, ◌≤◌, IfOk, MatchResult};
 ghost use Rattle.laws.specs.Clock.{InRange, CanTick};
-ghost use Rattle.memory.specs.Lent.{host, lent_refusal};
+ghost use Rattle.memory.specs.Lent.{host, seen};
 ghost use Rattle.schedule.specs.Kind.{kind_of, last_cycle};
 ghost use Rattle.schedule.specs.Machinery.Stretches.{before_graphics};
 ghost use Rattle.access.specs.Reads.{told};
 ghost use Rattle.access.specs.Machinery.Noted.{reads_in};
-ghost use Rattle.chip.specs.Chip.{chip};
-ghost use Rattle.chip.specs.Accept.{accepted};
-ghost use Rattle.world.specs.World.{chip_of};
-ghost use Rattle.engine.specs.World.{world};
+ghost use Rattle.world.specs.World.{chip_of, world_of};
+ghost use Rattle.engine.specs.World.{world_in};
 ghost use Rattle.world.specs.Tick.{tick_world, tick_reads};
-ghost use Rattle.sequencer.specs.Tick.{tickable, tick_refusal, ticked, ticks_from};
+ghost use Rattle.sequencer.specs.Tick.{tickable, ticked, ticks_from};
 ghost use Rattle.sequencer.specs.Line.{at_line_end, lineable, lined, lines_from};
-ghost use Rattle.sequencer.specs.Machinery.Parts.{Ready, Held, Roomy, Part, tested_from, answered};
+ghost use Rattle.sequencer.specs.Machinery.Parts.{Ready, Held, Roomy, Part, sound_refusal, tested_from, answered};
 ghost use Rattle.sequencer.specs.Machinery.Skip.{skippable_by, skipped, core_later};
 
+use access::Slots;
 use chip::{Answer, Chip, Picture};
-use engine::Core;
+use engine::{Arrays, Core};
+use memory::Host;
 use registers::Registers;
-use side::Side;
 
 // What a tick leaves, and its reads in one number.
 #[derive(Clone, Copy)]
@@ -39,6 +38,7 @@ pub struct Gone {
     pub noted: u64,
 }
 
+// How a run ended: the number of its refusal, what it left, and what its last tick read.
 #[derive(Clone, Copy)]
 pub struct Ran {
     pub refused: u8,
@@ -47,106 +47,83 @@ pub struct Ran {
 }
 
 // One tick over the lent arrays, in a cycle with a graphics access.
-fn inner_lit(
-    core: Core,
-    regs: Registers,
-    matrix: &mut [u16],
-    pointers: &mut [u8],
-    bytes: &mut [u8],
-    words: &mut [u32],
-    ram: &[u8],
-    rom: &[u8],
-    colour: &[u8],
-    bank: u8,
-) -> Stepped
-    requires fact_1 { Ready (host ram.now rom.now colour.now bank) (world core matrix.old pointers.old bytes.old words.old) }
-    requires fact_2 { before_graphics core.side.beam.cycle ≡ Bool.true }
-    ensures fact_1 { world result.core matrix.new pointers.new bytes.new words.new ≡ tick_world (host ram.now rom.now colour.now bank) regs (world core matrix.old pointers.old bytes.old words.old) }
-    ensures fact_2 { reads_in result.noted ≡ told (tick_reads (host ram.now rom.now colour.now bank) regs (world core matrix.old pointers.old bytes.old words.old)) }
+#[tactic(auto, using(crate::proofs::Glue::can_range))]
+fn inner_lit(core: Core, regs: Registers, arrays: &mut Arrays, host: &Host<'_>) -> Stepped
+    requires ready { Ready (world_in core arrays.old) }
+    requires lit { before_graphics core.side.beam.cycle ≡ Bool.true }
+    ensures world { world_in result.core arrays.new ≡ tick_world (seen host.now) regs (world_in core arrays.old) }
+    ensures reads { reads_in result.noted ≡ told (tick_reads (seen host.now) regs (world_in core arrays.old)) }
 {
-    let side0 = core.side;
-    let pen0 = core.pen;
     let g = registers::timed(regs);
-    let turned = side::turn_lit(side0, g);
-    let orders = turned.orders;
-    let side = turned.side;
-    let bus = side.bus;
+    let turned = side::turn_lit(core.side, g);
     let mode = registers::mode(regs.ctrl1, regs.ctrl2);
+    let clock = turned.side.bus.clock;
     let drawn = picture::draw(
-        pen0, orders, bus.clock, mode, regs.ptrs, matrix, ram, rom, colour, bank,
+        core.pen,
+        turned.orders,
+        clock,
+        mode,
+        regs.ptrs,
+        &mut arrays.matrix,
+        host,
     );
-    let pen = drawn.pen;
-    let spots = drawn.spots;
-    let noted = picture::noted_lit(orders, spots);
-    let next = Core {
-        side: side,
-        pen: pen,
-    };
+    let noted = picture::noted_lit(turned.orders, drawn.spots);
     Stepped {
-        core: next,
-        noted: noted,
+        core: Core {
+            side: turned.side,
+            pen: drawn.pen,
+        },
+        noted,
     }
 }
 
 // One tick over the lent arrays, in a cycle without one.
-fn inner_dark(
-    core: Core,
-    regs: Registers,
-    matrix: &mut [u16],
-    pointers: &mut [u8],
-    bytes: &mut [u8],
-    words: &mut [u32],
-    ram: &[u8],
-    rom: &[u8],
-    colour: &[u8],
-    bank: u8,
-) -> Stepped
-    requires fact_1 { Ready (host ram.now rom.now colour.now bank) (world core matrix.old pointers.old bytes.old words.old) }
-    requires fact_2 { before_graphics core.side.beam.cycle ≡ Bool.false }
-    ensures fact_1 { world result.core matrix.new pointers.new bytes.new words.new ≡ tick_world (host ram.now rom.now colour.now bank) regs (world core matrix.old pointers.old bytes.old words.old) }
-    ensures fact_2 { reads_in result.noted ≡ told (tick_reads (host ram.now rom.now colour.now bank) regs (world core matrix.old pointers.old bytes.old words.old)) }
+#[tactic(auto, using(crate::proofs::Glue::can_range))]
+fn inner_dark(core: Core, regs: Registers, arrays: &mut Arrays, host: &Host<'_>) -> Stepped
+    requires ready { Ready (world_in core arrays.old) }
+    requires dark { before_graphics core.side.beam.cycle ≡ Bool.false }
+    ensures world { world_in result.core arrays.new ≡ tick_world (seen host.now) regs (world_in core arrays.old) }
+    ensures reads { reads_in result.noted ≡ told (tick_reads (seen host.now) regs (world_in core arrays.old)) }
 {
-    let side0 = core.side;
-    let pen0 = core.pen;
     let g = registers::timed(regs);
-    let turned = side::turn_dark(side0, g);
-    let orders = turned.orders;
-    let side = turned.side;
-    let bus = side.bus;
-    let slot = picture::slot(pointers, bytes, words, orders, regs.ptrs, ram, rom, bank);
+    let turned = side::turn_dark(core.side, g);
+    let slot = picture::slot(&mut arrays.slots, turned.orders, regs.ptrs, &host.memory);
     let mode = registers::mode(regs.ctrl1, regs.ctrl2);
+    let clock = turned.side.bus.clock;
     let drawn = picture::draw_dark(
-        pen0, orders, bus.clock, mode, regs.ptrs, matrix, ram, rom, colour, bank,
+        core.pen,
+        turned.orders,
+        clock,
+        mode,
+        regs.ptrs,
+        &mut arrays.matrix,
+        host,
     );
-    let pen = drawn.pen;
-    let spots = drawn.spots;
-    let noted = picture::noted_dark(orders, slot, spots);
-    let next = Core {
-        side: side,
-        pen: pen,
-    };
+    let noted = picture::noted_dark(turned.orders, slot, drawn.spots);
     Stepped {
-        core: next,
-        noted: noted,
+        core: Core {
+            side: turned.side,
+            pen: drawn.pen,
+        },
+        noted,
     }
 }
 
 // ---- ticks that only count are counted and not done, but for the last
 
 // Whether a tick after the left compares and before the last graphics access leaves only its own byte and what it counts.
+#[tactic(auto, unfolding(crate::specs::Machinery::Skip::skippable_by))]
 fn skippable(core: Core, regs: Registers) -> bool
     ensures { result ≡ skippable_by regs core }
 {
-    let side = core.side;
-    let pen = core.pen;
-    let border = side.border;
-    let rows = side.rows;
     let yscroll = registers::yscroll(regs.ctrl1);
-    let counts = side::only_counts(side, yscroll);
-    counts & !pen.changing & (border.disabled | !rows.display | (rows.rc != 0))
+    let counts = side::only_counts(core.side, yscroll);
+    let rows = core.side.rows;
+    counts & !core.pen.changing & (core.side.border.disabled | !rows.display | (rows.rc != 0))
 }
 
 // How many ticks to skip before one that is done, with some left to do.
+#[tactic(auto, using(crate::proofs::Skip::skips_none, crate::proofs::Skip::skips_high, crate::proofs::Skip::skips_most, crate::proofs::Skip::skips_rest))]
 fn skips(able: bool, cycle: u16, left: u64) -> u8
     requires { 0 < left }
     ensures { result ≡ skipped able cycle left }
@@ -163,145 +140,92 @@ fn skips(able: bool, cycle: u16, left: u64) -> u8
 }
 
 fn leap(core: Core, k: u8) -> Core
-    requires fact_1 { InRange core.side.bus.clock }
-    requires fact_2 { core.side.beam.cycle < 66 }
+    requires clock { InRange core.side.bus.clock }
+    requires cycle { core.side.beam.cycle < 66 }
     ensures { result ≡ core_later k core }
 {
-    let side = core.side;
-    let pen = core.pen;
-    let later = side::leap(side, k);
-    Core {
-        side: later,
-        pen: pen,
-    }
+    let side = side::leap(core.side, k);
+    Core { side, ..core }
 }
 
 // Ticks while each has a graphics access, as far as n and the clock go.
-fn lit_run(
-    core: Core,
-    regs: Registers,
-    matrix: &mut [u16],
-    pointers: &mut [u8],
-    bytes: &mut [u8],
-    words: &mut [u32],
-    ram: &[u8],
-    rom: &[u8],
-    colour: &[u8],
-    bank: u8,
-    n: u64,
-) -> Gone
-    requires fact_1 { Held (host ram.now rom.now colour.now bank) regs (world core matrix.old pointers.old bytes.old words.old) }
-    requires fact_2 { Roomy n core.side.bus.clock }
-    ensures { Part (host ram.now rom.now colour.now bank) regs n (before_graphics core.side.beam.cycle) (world core matrix.old pointers.old bytes.old words.old) result.done (world result.core matrix.new pointers.new bytes.new words.new) (reads_in result.noted) }
+#[tactic(auto, using(crate::proofs::Staged::stopped_at, crate::proofs::Staged::ended_at))]
+fn lit_run(core: Core, regs: Registers, arrays: &mut Arrays, host: &Host<'_>, n: u64) -> Gone
+    requires held { Held (seen host.now) regs (world_in core arrays.old) }
+    requires room { Roomy n core.side.bus.clock }
+    ensures { Part (seen host.now) regs n (before_graphics core.side.beam.cycle) (world_in core arrays.old) result.done (world_in result.core arrays.new) (reads_in result.noted) }
 {
     let mut now = core;
     let mut noted = 0u64;
     let mut i = 0u64;
     while i < n {
-        let side = now.side;
-        let beam = side.beam;
-        let lit = schedule::before_graphics(beam.cycle);
+        let cycle = now.side.beam.cycle;
+        let lit = schedule::before_graphics(cycle);
         if !lit {
             return Gone {
                 done: i,
                 core: now,
-                noted: noted,
+                noted,
             };
         }
         let able = skippable(now, regs);
-        let k = skips(able, beam.cycle, n - i);
+        let k = skips(able, cycle, n - i);
         let later = leap(now, k);
-        let stepped = inner_lit(
-            later, regs, matrix, pointers, bytes, words, ram, rom, colour, bank,
-        );
+        let stepped = inner_lit(later, regs, arrays, host);
         now = stepped.core;
         noted = stepped.noted;
-        i = i + 1 + k as u64;
+        i += 1 + k as u64;
     }
     Gone {
-        done: i,
+        done: n,
         core: now,
-        noted: noted,
+        noted,
     }
 }
 
 // Ticks while none has one.
-fn dark_run(
-    core: Core,
-    regs: Registers,
-    matrix: &mut [u16],
-    pointers: &mut [u8],
-    bytes: &mut [u8],
-    words: &mut [u32],
-    ram: &[u8],
-    rom: &[u8],
-    colour: &[u8],
-    bank: u8,
-    n: u64,
-) -> Gone
-    requires fact_1 { Held (host ram.now rom.now colour.now bank) regs (world core matrix.old pointers.old bytes.old words.old) }
-    requires fact_2 { Roomy n core.side.bus.clock }
-    ensures { Part (host ram.now rom.now colour.now bank) regs n (not (before_graphics core.side.beam.cycle)) (world core matrix.old pointers.old bytes.old words.old) result.done (world result.core matrix.new pointers.new bytes.new words.new) (reads_in result.noted) }
+#[tactic(auto, using(crate::proofs::Staged::stopped_at, crate::proofs::Staged::ended_at))]
+fn dark_run(core: Core, regs: Registers, arrays: &mut Arrays, host: &Host<'_>, n: u64) -> Gone
+    requires held { Held (seen host.now) regs (world_in core arrays.old) }
+    requires room { Roomy n core.side.bus.clock }
+    ensures { Part (seen host.now) regs n (not (before_graphics core.side.beam.cycle)) (world_in core arrays.old) result.done (world_in result.core arrays.new) (reads_in result.noted) }
 {
     let mut now = core;
     let mut noted = 0u64;
-    let mut i = 0u64;
-    while i < n {
-        let side = now.side;
-        let beam = side.beam;
-        let lit = schedule::before_graphics(beam.cycle);
+    for i in 0..n {
+        let lit = schedule::before_graphics(now.side.beam.cycle);
         if lit {
             return Gone {
                 done: i,
                 core: now,
-                noted: noted,
+                noted,
             };
         }
-        let stepped = inner_dark(
-            now, regs, matrix, pointers, bytes, words, ram, rom, colour, bank,
-        );
+        let stepped = inner_dark(now, regs, arrays, host);
         now = stepped.core;
         noted = stepped.noted;
-        i = i + 1;
     }
     Gone {
-        done: i,
+        done: n,
         core: now,
-        noted: noted,
+        noted,
     }
 }
 
 // Ticks of one part of a line.
-fn stage(
-    core: Core,
-    regs: Registers,
-    matrix: &mut [u16],
-    pointers: &mut [u8],
-    bytes: &mut [u8],
-    words: &mut [u32],
-    ram: &[u8],
-    rom: &[u8],
-    colour: &[u8],
-    bank: u8,
-    n: u64,
-) -> Gone
-    requires fact_1 { Held (host ram.now rom.now colour.now bank) regs (world core matrix.old pointers.old bytes.old words.old) }
-    requires fact_2 { Roomy n core.side.bus.clock }
-    ensures { Part (host ram.now rom.now colour.now bank) regs n Bool.true (world core matrix.old pointers.old bytes.old words.old) result.done (world result.core matrix.new pointers.new bytes.new words.new) (reads_in result.noted) }
+fn stage(core: Core, regs: Registers, arrays: &mut Arrays, host: &Host<'_>, n: u64) -> Gone
+    requires held { Held (seen host.now) regs (world_in core arrays.old) }
+    requires room { Roomy n core.side.bus.clock }
+    ensures { Part (seen host.now) regs n Bool.true (world_in core arrays.old) result.done (world_in result.core arrays.new) (reads_in result.noted) }
 {
-    let side = core.side;
-    let beam = side.beam;
-    let lit = schedule::before_graphics(beam.cycle);
+    let lit = schedule::before_graphics(core.side.beam.cycle);
     if lit {
-        return lit_run(
-            core, regs, matrix, pointers, bytes, words, ram, rom, colour, bank, n,
-        );
+        return lit_run(core, regs, arrays, host, n);
     }
-    dark_run(
-        core, regs, matrix, pointers, bytes, words, ram, rom, colour, bank, n,
-    )
+    dark_run(core, regs, arrays, host, n)
 }
 
+#[tactic(auto, using(crate::proofs::Clock::is_tickable))]
 fn can_tick(clock: i64) -> bool
     ensures { result ≡ tickable clock }
 {
@@ -318,12 +242,13 @@ fn can_line(kind: u8, clock: i64) -> bool
 }
 
 // How many ticks a part of a run may do at most: all of them are ones that the clock takes.
+#[tactic(auto, using(crate::proofs::Staged::fits_one, crate::proofs::Staged::fits_some))]
 fn fitting(n: u64, clock: i64) -> u64
-    requires fact_1 { 0 < n }
-    requires fact_2 { CanTick clock }
-    ensures fact_1 { 0 < result }
-    ensures fact_2 { result ≤ n }
-    ensures fact_3 { Roomy result clock }
+    requires some { 0 < n }
+    requires clock { CanTick clock }
+    ensures some { 0 < result }
+    ensures within { result ≤ n }
+    ensures room { Roomy result clock }
 {
     if 4611686018427387776 < clock {
         return 1;
@@ -335,29 +260,17 @@ fn fitting(n: u64, clock: i64) -> u64
 }
 
 // Ticks over the lent arrays, until n are done or the clock can take no more.
-fn run(
-    core: Core,
-    regs: Registers,
-    matrix: &mut [u16],
-    pointers: &mut [u8],
-    bytes: &mut [u8],
-    words: &mut [u32],
-    ram: &[u8],
-    rom: &[u8],
-    colour: &[u8],
-    bank: u8,
-    n: u64,
-) -> Ran
-    requires { Held (host ram.now rom.now colour.now bank) regs (world core matrix.old pointers.old bytes.old words.old) }
-    ensures { answered result.refused (chip_of regs (world result.core matrix.new pointers.new bytes.new words.new)) (reads_in result.noted) ≡ ticks_from (host ram.now rom.now colour.now bank) n (chip_of regs (world core matrix.old pointers.old bytes.old words.old)) }
+#[tactic(auto, using(crate::proofs::Runs::all_done))]
+fn run(core: Core, regs: Registers, arrays: &mut Arrays, host: &Host<'_>, n: u64) -> Ran
+    requires { Held (seen host.now) regs (world_in core arrays.old) }
+    ensures { answered result.refused (chip_of regs (world_in result.core arrays.new)) (reads_in result.noted) ≡ ticks_from (seen host.now) n (chip_of regs (world_in core arrays.old)) }
 {
     let mut now = core;
     let mut noted = 0u64;
     let mut done = 0u64;
     while done < n {
-        let side = now.side;
-        let bus = side.bus;
-        let can = can_tick(bus.clock);
+        let clock = now.side.bus.clock;
+        let can = can_tick(clock);
         if !can {
             return Ran {
                 refused: 4,
@@ -365,130 +278,119 @@ fn run(
                 noted: 0,
             };
         }
-        let most = fitting(n - done, bus.clock);
-        let gone = stage(
-            now, regs, matrix, pointers, bytes, words, ram, rom, colour, bank, most,
-        );
+        let most = fitting(n - done, clock);
+        let gone = stage(now, regs, arrays, host, most);
         now = gone.core;
         noted = gone.noted;
-        done = done + gone.done;
+        done += gone.done;
     }
     Ran {
         refused: 0,
         core: now,
-        noted: noted,
+        noted,
     }
 }
 
-// The same over arrays, whose lengths their types tell.
-fn run_arrays(
-    core: Core,
-    regs: Registers,
-    matrix: &mut [u16; 40],
-    pointers: &mut [u8; 8],
-    bytes: &mut [u8; 24],
-    words: &mut [u32; 8],
-    ram: &[u8],
-    rom: &[u8],
-    colour: &[u8],
-    bank: u8,
-    n: u64,
-) -> Ran
-    requires { (lent_refusal (host ram.now rom.now colour.now bank) ≡ 0) × (accepted (chip_of regs (world core matrix.old pointers.old bytes.old words.old)) ≡ Bool.true) }
-    ensures { answered result.refused (chip_of regs (world result.core matrix.new pointers.new bytes.new words.new)) (reads_in result.noted) ≡ ticks_from (host ram.now rom.now colour.now bank) n (chip_of regs (world core matrix.old pointers.old bytes.old words.old)) }
+// ---- a chip taken apart for a run, and put together after it
+
+// The picture's arrays, to be lent to a run.
+fn arrays_of(picture: Picture) -> Arrays
+    ensures matrix { result.matrix ≡ picture.matrix }
+    ensures pointers { result.slots.pointers ≡ picture.pointers }
+    ensures bytes { result.slots.bytes ≡ picture.bytes }
+    ensures words { result.slots.words ≡ picture.words }
 {
-    run(
-        core, regs, matrix, pointers, bytes, words, ram, rom, colour, bank, n,
-    )
+    let matrix = picture.matrix;
+    let pointers = picture.pointers;
+    let bytes = picture.bytes;
+    let words = picture.words;
+    let slots = Slots {
+        pointers,
+        bytes,
+        words,
+    };
+    Arrays { matrix, slots }
 }
 
-// The run of an accepted state: the picture's arrays are copied once, lent once, and packed once.
-fn run_parts(
-    regs: Registers,
-    side: Side,
-    picture: Picture,
-    ram: &[u8],
-    rom: &[u8],
-    colour: &[u8],
-    bank: u8,
-    n: u64,
-) -> Answer
-    requires fact_1 { lent_refusal (host ram.now rom.now colour.now bank) ≡ 0 }
-    requires fact_2 { accepted (chip regs side picture) ≡ Bool.true }
-    ensures { result ≡ ticks_from (host ram.now rom.now colour.now bank) n (chip regs side picture) }
+// The answer of a run that is over.
+fn ended(regs: Registers, ran: Ran, arrays: Arrays) -> Answer
+    ensures { result ≡ answered ran.refused (chip_of regs (world_in ran.core arrays)) (reads_in ran.noted) }
 {
-    let pen = picture.pen;
-    let mut matrix = picture.matrix;
-    let mut pointers = picture.pointers;
-    let mut bytes = picture.bytes;
-    let mut words = picture.words;
-    let core = Core {
-        side: side,
-        pen: pen,
+    let matrix = arrays.matrix;
+    let pointers = arrays.slots.pointers;
+    let bytes = arrays.slots.bytes;
+    let words = arrays.slots.words;
+    let picture = Picture {
+        pen: ran.core.pen,
+        matrix,
+        pointers,
+        bytes,
+        words,
     };
-    let ran = run_arrays(
-        core,
+    let chip = Chip {
         regs,
-        &mut matrix,
-        &mut pointers,
-        &mut bytes,
-        &mut words,
-        ram,
-        rom,
-        colour,
-        bank,
-        n,
-    );
-    let after = ran.core;
-    let side1 = after.side;
-    let pen1 = after.pen;
-    let picture1 = Picture {
-        pen: pen1,
-        matrix: matrix,
-        pointers: pointers,
-        bytes: bytes,
-        words: words,
+        side: ran.core.side,
+        picture,
     };
-    let next = Chip {
-        regs: regs,
-        side: side1,
-        picture: picture1,
-    };
-    let reads = access::reads_in(ran.noted);
     Answer {
         refused: ran.refused,
-        chip: next,
-        reads: reads,
+        chip,
+        reads: access::reads_in(ran.noted),
     }
 }
 
-// Ticks one by one: acceptance is tested once, since a tick keeps it, and the picture's arrays are lent once. With no tick to do it still tests.
+// What is lent, where neither it nor the state is refused; else the number of the refusal. Called, it would copy the chip.
+#[inline(always)]
+#[tactic(auto, using(crate::proofs::Runs::sound_lent, crate::proofs::Runs::sound_state))]
+fn sound<'a>(
+    chip: Chip,
+    ram: &'a [u8],
+    rom: &'a [u8],
+    colour: &'a [u8],
+    bank: u8,
+) -> Result<Host<'a>, u8>
+    ensures lent { IfOk result (λ h. seen h ≡ host ram.now rom.now colour.now bank) }
+    ensures number { MatchResult result (λ h. sound_refusal (host ram.now rom.now colour.now bank) chip ≡ 0) (λ n. (n ≡ sound_refusal (host ram.now rom.now colour.now bank) chip) × (n ≡ 0 → ⊥)) }
+{
+    match memory::lend(ram, rom, colour, bank) {
+        Err(why) => Err(why.number()),
+        Ok(host) => {
+            let state = chip::state_refusal(chip);
+            if state != 0 {
+                return Err(state);
+            }
+            Ok(host)
+        }
+    }
+}
+
+// A run of ticks of an accepted state: the picture's arrays are copied once, lent once, and packed once.
+fn run_chip(chip: Chip, host: &Host<'_>, n: u64) -> Answer
+    requires { Held (seen host.now) chip.regs (world_of chip) }
+    ensures { result ≡ ticks_from (seen host.now) n chip }
+{
+    let core = Core {
+        side: chip.side,
+        pen: chip.picture.pen,
+    };
+    let mut arrays = arrays_of(chip.picture);
+    let ran = run(core, chip.regs, &mut arrays, host, n);
+    ended(chip.regs, ran, arrays)
+}
+
+// Ticks one by one: what is lent and the state are tested once, since a tick keeps both. With no tick to do it still tests.
+#[tactic(auto, using(crate::proofs::Runs::sound_held, crate::proofs::Runs::tested_sound, crate::proofs::Runs::tested_unsound))]
 fn tested(chip: Chip, ram: &[u8], rom: &[u8], colour: &[u8], bank: u8, n: u64) -> Answer
     ensures { result ≡ tested_from (host ram.now rom.now colour.now bank) n chip }
 {
-    let lent = memory::lent_refusal(ram, rom, colour, bank);
-    if lent != 0 {
-        return Answer {
-            refused: lent,
-            chip: chip,
-            reads: access::no_reads(),
-        };
+    match sound(chip, ram, rom, colour, bank) {
+        Ok(host) => run_chip(chip, &host, n),
+        Err(refused) => chip::answered(refused, chip),
     }
-    let state = chip::state_refusal(chip);
-    if state != 0 {
-        return Answer {
-            refused: state,
-            chip: chip,
-            reads: access::no_reads(),
-        };
-    }
-    let regs = chip.regs;
-    let side = chip.side;
-    let picture = chip.picture;
-    run_parts(regs, side, picture, ram, rom, colour, bank, n)
 }
 
 // One tick. A host that ticks often calls `ticks`: by value, each call copies the state.
+#[tactic(auto, using(crate::proofs::Runs::tested_some, crate::proofs::Runs::one_tick))]
 pub fn tick(chip: Chip, ram: &[u8], rom: &[u8], colour: &[u8], bank: u8) -> Answer
     ensures { result ≡ ticked (host ram.now rom.now colour.now bank) chip }
 {
@@ -498,30 +400,14 @@ pub fn tick(chip: Chip, ram: &[u8], rom: &[u8], colour: &[u8], bank: u8) -> Answ
 // ---- a line at a time
 
 // Lines over the lent arrays, until n are done or the clock can take no more.
-fn line_run(
-    core: Core,
-    regs: Registers,
-    matrix: &mut [u16],
-    pointers: &mut [u8],
-    bytes: &mut [u8],
-    words: &mut [u32],
-    ram: &[u8],
-    rom: &[u8],
-    colour: &[u8],
-    bank: u8,
-    n: u64,
-) -> Ran
-    requires fact_1 { Held (host ram.now rom.now colour.now bank) regs (world core matrix.old pointers.old bytes.old words.old) }
-    requires fact_2 { at_line_end core.side ≡ Bool.true }
-    ensures { answered result.refused (chip_of regs (world result.core matrix.new pointers.new bytes.new words.new)) (reads_in result.noted) ≡ lines_from (host ram.now rom.now colour.now bank) n (chip_of regs (world core matrix.old pointers.old bytes.old words.old)) }
+fn line_run(core: Core, regs: Registers, arrays: &mut Arrays, host: &Host<'_>, n: u64) -> Ran
+    requires held { Held (seen host.now) regs (world_in core arrays.old) }
+    requires at { at_line_end core.side ≡ Bool.true }
+    ensures { answered result.refused (chip_of regs (world_in result.core arrays.new)) (reads_in result.noted) ≡ lines_from (seen host.now) n (chip_of regs (world_in core arrays.old)) }
 {
     let mut now = core;
-    let mut done = 0u64;
-    while done < n {
-        let side = now.side;
-        let beam = side.beam;
-        let bus = side.bus;
-        let can = can_line(beam.kind, bus.clock);
+    for done in 0..n {
+        let can = can_line(now.side.beam.kind, now.side.bus.clock);
         if !can {
             return Ran {
                 refused: 4,
@@ -529,10 +415,7 @@ fn line_run(
                 noted: 0u64,
             };
         }
-        now = engine::line(
-            now, regs, matrix, pointers, bytes, words, ram, rom, colour, bank,
-        );
-        done = done + 1;
+        now = engine::line(now, regs, arrays, host);
     }
     Ran {
         refused: 0,
@@ -541,120 +424,43 @@ fn line_run(
     }
 }
 
-// Lines over arrays.
-fn line_arrays(
-    core: Core,
-    regs: Registers,
-    matrix: &mut [u16; 40],
-    pointers: &mut [u8; 8],
-    bytes: &mut [u8; 24],
-    words: &mut [u32; 8],
-    ram: &[u8],
-    rom: &[u8],
-    colour: &[u8],
-    bank: u8,
-    n: u64,
-) -> Ran
-    requires { (lent_refusal (host ram.now rom.now colour.now bank) ≡ 0) × ((accepted (chip_of regs (world core matrix.old pointers.old bytes.old words.old)) ≡ Bool.true) × (at_line_end core.side ≡ Bool.true)) }
-    ensures { answered result.refused (chip_of regs (world result.core matrix.new pointers.new bytes.new words.new)) (reads_in result.noted) ≡ lines_from (host ram.now rom.now colour.now bank) n (chip_of regs (world core matrix.old pointers.old bytes.old words.old)) }
+// A run of lines of an accepted state at the last cycle of one.
+fn run_lines(chip: Chip, host: &Host<'_>, n: u64) -> Answer
+    requires held { Held (seen host.now) chip.regs (world_of chip) }
+    requires at { at_line_end chip.side ≡ Bool.true }
+    ensures { result ≡ lines_from (seen host.now) n chip }
 {
-    line_run(
-        core, regs, matrix, pointers, bytes, words, ram, rom, colour, bank, n,
-    )
-}
-
-// The same of a state, packed as a run of ticks is.
-fn line_parts(
-    regs: Registers,
-    side: Side,
-    picture: Picture,
-    ram: &[u8],
-    rom: &[u8],
-    colour: &[u8],
-    bank: u8,
-    n: u64,
-) -> Answer
-    requires fact_1 { lent_refusal (host ram.now rom.now colour.now bank) ≡ 0 }
-    requires fact_2 { accepted (chip regs side picture) ≡ Bool.true }
-    requires fact_3 { at_line_end side ≡ Bool.true }
-    ensures { result ≡ lines_from (host ram.now rom.now colour.now bank) n (chip regs side picture) }
-{
-    let pen = picture.pen;
-    let mut matrix = picture.matrix;
-    let mut pointers = picture.pointers;
-    let mut bytes = picture.bytes;
-    let mut words = picture.words;
     let core = Core {
-        side: side,
-        pen: pen,
+        side: chip.side,
+        pen: chip.picture.pen,
     };
-    let ran = line_arrays(
-        core,
-        regs,
-        &mut matrix,
-        &mut pointers,
-        &mut bytes,
-        &mut words,
-        ram,
-        rom,
-        colour,
-        bank,
-        n,
-    );
-    let end = ran.core;
-    let side2 = end.side;
-    let pen2 = end.pen;
-    let picture2 = Picture {
-        pen: pen2,
-        matrix: matrix,
-        pointers: pointers,
-        bytes: bytes,
-        words: words,
-    };
-    let next = Chip {
-        regs: regs,
-        side: side2,
-        picture: picture2,
-    };
-    let reads = access::reads_in(ran.noted);
-    Answer {
-        refused: ran.refused,
-        chip: next,
-        reads: reads,
-    }
+    let mut arrays = arrays_of(chip.picture);
+    let ran = line_run(core, chip.regs, &mut arrays, host, n);
+    ended(chip.regs, ran, arrays)
 }
 
 // A run of lines, each written as a whole: what is lent and acceptance are tested once, since a line keeps them and ends where the next begins.
+#[tactic(auto, using(crate::proofs::Runs::sound_held, crate::proofs::Runs::sound_passes, crate::proofs::Lined::lines_none, crate::proofs::Lined::lines_mid, crate::proofs::Lined::lines_unsound))]
 pub fn lines(chip: Chip, ram: &[u8], rom: &[u8], colour: &[u8], bank: u8, n: u64) -> Answer
     ensures { result ≡ lines_from (host ram.now rom.now colour.now bank) n chip }
 {
     if n == 0 {
-        return Answer {
-            refused: 0,
-            chip: chip,
-            reads: access::no_reads(),
-        };
+        return chip::answered(0, chip);
     }
-    let sound = tested(chip, ram, rom, colour, bank, 0);
-    if sound.refused != 0 {
-        return sound;
+    match sound(chip, ram, rom, colour, bank) {
+        Err(refused) => chip::answered(refused, chip),
+        Ok(host) => {
+            let last = schedule::last_cycle(chip.side.beam.kind);
+            if chip.side.beam.cycle != last {
+                return chip::answered(11, chip);
+            }
+            run_lines(chip, &host, n)
+        }
     }
-    let regs = chip.regs;
-    let side = chip.side;
-    let picture = chip.picture;
-    let beam = side.beam;
-    let last = schedule::last_cycle(beam.kind);
-    if beam.cycle != last {
-        return Answer {
-            refused: 11,
-            chip: chip,
-            reads: access::no_reads(),
-        };
-    }
-    line_parts(regs, side, picture, ram, rom, colour, bank, n)
 }
 
 // The next line, from a state at the last cycle of one.
+#[tactic(auto, using(crate::proofs::Lined::one_line))]
 pub fn line(chip: Chip, ram: &[u8], rom: &[u8], colour: &[u8], bank: u8) -> Answer
     ensures { result ≡ lined (host ram.now rom.now colour.now bank) chip }
 {
@@ -675,19 +481,14 @@ fn to_end(kind: u8, cycle: u16) -> u64
 }
 
 // Whole lines as far as they go before the last of n ticks, whose reads are told; then ticks. Where lines are refused all is done by ticks.
+#[tactic(auto, using(crate::proofs::Runs::no_ticks, crate::proofs::Runs::tested_some, crate::proofs::Lined::lines_before))]
 fn by_lines(chip: Chip, ram: &[u8], rom: &[u8], colour: &[u8], bank: u8, n: u64) -> Answer
     ensures { result ≡ ticks_from (host ram.now rom.now colour.now bank) n chip }
 {
     if n == 0 {
-        return Answer {
-            refused: 0,
-            chip: chip,
-            reads: access::no_reads(),
-        };
+        return chip::answered(0, chip);
     }
-    let side = chip.side;
-    let beam = side.beam;
-    let last = schedule::last_cycle(beam.kind) as u64;
+    let last = schedule::last_cycle(chip.side.beam.kind) as u64;
     let whole = (n - 1) / last;
     let far = lines(chip, ram, rom, colour, bank, whole);
     if far.refused != 0 {
@@ -697,12 +498,11 @@ fn by_lines(chip: Chip, ram: &[u8], rom: &[u8], colour: &[u8], bank: u8, n: u64)
 }
 
 // A run that may have a whole line in it: ticks to the line's end first.
+#[tactic(auto, using(crate::proofs::Staged::beyond))]
 fn long_run(chip: Chip, ram: &[u8], rom: &[u8], colour: &[u8], bank: u8, n: u64) -> Answer
     ensures { result ≡ ticks_from (host ram.now rom.now colour.now bank) n chip }
 {
-    let side = chip.side;
-    let beam = side.beam;
-    let first = to_end(beam.kind, beam.cycle);
+    let first = to_end(chip.side.beam.kind, chip.side.beam.cycle);
     if (first == 0) | (n <= first) {
         return by_lines(chip, ram, rom, colour, bank, n);
     }
@@ -714,6 +514,7 @@ fn long_run(chip: Chip, ram: &[u8], rom: &[u8], colour: &[u8], bank: u8, n: u64)
 }
 
 // A run of ticks. One that is shorter than a line and its last tick has no whole line in it.
+#[tactic(auto, using(crate::proofs::Runs::tested_some))]
 pub fn ticks(chip: Chip, ram: &[u8], rom: &[u8], colour: &[u8], bank: u8, n: u64) -> Answer
     ensures { result ≡ ticks_from (host ram.now rom.now colour.now bank) n chip }
 {

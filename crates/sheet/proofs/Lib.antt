@@ -6,3 +6,4 @@ pub mod Blocks
 pub mod Ends
 pub mod Retired
 pub mod Drive
+pub mod Bundle

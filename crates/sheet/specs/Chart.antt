@@ -30,6 +30,10 @@ end r m = record { run = r; store = m }
 abbrev pub roomed : Run → Run
 roomed r = cond (leb r.at 65472) r (emptied r)
 
+-- a text goes on up to the last place that has room for one, and past it begins the buffer anew
+abbrev pub room_of : ℕ → ℕ → ℕ
+room_of last at = cond (leb at last) at 0
+
 -- turn after turn, up to the one that ends the run
 unfoldable pub ended : ℕ → List ℕ → Store → Run → End
 ended zero s m r = end r m

@@ -1,3 +1,4 @@
 pub mod Sheet
 pub mod Machinery
 pub mod Chart
+pub mod Desk

@@ -7,12 +7,13 @@ ghost use Rattle.line.specs.Text.{Written};
 ghost use Rattle.driver.specs.Driver.{store, store_at};
 ghost use Rattle.sheet.specs.Sheet.{driven_of, with_text, begun_of, placed, text_by, said_on, run_on};
 ghost use Rattle.sheet.specs.Machinery.Fill.{goes, Gone, Filled, ahead};
-ghost use Rattle.sheet.specs.Chart.{chart_of, end, ended_of, Ends};
+ghost use Rattle.sheet.specs.Chart.{chart_of, end, ended_of, room_of, Ends};
+ghost use Rattle.sheet.specs.Desk.{Fresh, Printed, PrintedAll};
 
 use chip::Chip;
 use driver::Event;
 use script::{Cursor, Found};
-use streams::STDOUT_FILENO;
+use streams::{STDIN_FILENO, STDOUT_FILENO};
 
 // A run on its way: `done` steps are done, and the text goes on at `at`.
 #[derive(Clone, Copy)]
@@ -31,11 +32,9 @@ pub struct Run {
 fn with_text(run: driver::Run, at: usize) -> Run
     ensures { result ≡ with_text run at }
 {
-    let chip = run.chip;
-    let cursor = run.cursor;
     Run {
-        chip,
-        cursor,
+        chip: run.chip,
+        cursor: run.cursor,
         at,
         done: run.done,
         bank: run.bank,
@@ -47,11 +46,9 @@ fn with_text(run: driver::Run, at: usize) -> Run
 fn driven(run: Run) -> driver::Run
     ensures { result ≡ driven_of run }
 {
-    let chip = run.chip;
-    let cursor = run.cursor;
     driver::Run {
-        chip,
-        cursor,
+        chip: run.chip,
+        cursor: run.cursor,
         done: run.done,
         bank: run.bank,
         going: run.going,
@@ -68,16 +65,7 @@ pub fn begun(kind: u8) -> Run
 fn at_place(run: Run, at: usize, going: bool) -> Run
     ensures { result ≡ placed run at going }
 {
-    let chip = run.chip;
-    let cursor = run.cursor;
-    Run {
-        chip,
-        cursor,
-        at,
-        done: run.done,
-        bank: run.bank,
-        going,
-    }
+    Run { at, going, ..run }
 }
 
 // ---- the text
@@ -111,10 +99,8 @@ fn turn(
     ensures colour_after { store ram.new rom.new colour.new ≡ store_at (store ram.old rom.old colour.old) found.item }
 {
     let made = driver::turn(driven(before), found, ram, rom, colour);
-    let run = made.run;
-    let event = made.event;
-    let at = told(out, before.at, event, run);
-    with_text(run, at)
+    let at = told(out, before.at, made.event, made.run);
+    with_text(made.run, at)
 }
 
 // The steps of one block, which is lent once: until it is read, the run is over or another turn may not fit.
@@ -135,9 +121,8 @@ fn walk(
     let rest = left - script::block_steps(left);
     let mut run = start;
     while run.going & (run.at <= 65472) & (rest < run.cursor.left) {
-        let cursor = run.cursor;
-        let found = cursor.in_block(lent, from);
-        run = turn(run, found, &mut *ram, &mut *rom, &mut *colour, &mut *out);
+        let found = run.cursor.in_block(lent, from);
+        run = turn(run, found, ram, rom, colour, out);
     }
     run
 }
@@ -154,11 +139,10 @@ fn on(
     requires { (65536 ≡ length out.old) × (goes before ≡ true) }
     ensures { Gone input.now (store ram.old rom.old colour.old) before out.old (store ram.new rom.new colour.new) result out.new }
 {
-    let cursor = before.cursor;
-    if cursor.at_step() {
+    if before.cursor.at_step() {
         return walk(before, input, ram, rom, colour, out);
     }
-    let found = cursor.next(input);
+    let found = before.cursor.next(input);
     turn(before, found, ram, rom, colour, out)
 }
 
@@ -178,15 +162,31 @@ fn fill(
 {
     let mut run = at_place(start, 0, start.going);
     while run.going & (run.at <= 65472) {
-        run = on(run, input, &mut *ram, &mut *rom, &mut *colour, &mut *out);
+        run = on(run, input, ram, rom, colour, out);
     }
     run
 }
 
-fn flush(out: &[u8], at: usize)
+// ---- the blocks
+
+// What stands before a place, written out; the next text begins the buffer anew.
+pub fn flush(out: &[u8], at: usize) -> usize
     requires { at ≤ length out.now }
+    ensures { result ≡ 0 }
 {
     io::write_all(STDOUT_FILENO, &out[..at]);
+    0
+}
+
+// Where the next text goes: past the last place that has room for one, what stands is written out first.
+pub fn room(out: &[u8], at: usize, last: usize) -> usize
+    requires { at ≤ length out.now }
+    ensures { result ≡ room_of last at }
+{
+    if at <= last {
+        return at;
+    }
+    flush(out, at)
 }
 
 // The whole chart of a run on a kind of chip to standard output, and the run as it ended. The memory that is lent is the run's own, and starts 0.
@@ -205,8 +205,86 @@ pub fn print(
 {
     let mut run = begun(kind);
     while run.going {
-        run = fill(run, input, &mut *ram, &mut *rom, &mut *colour, &mut *out);
+        run = fill(run, input, ram, rom, colour, out);
         flush(out, run.at);
     }
     run
+}
+
+// ---- a program over a run file, or over many
+
+// A run's own memory, which starts 0, and the buffer for its text.
+#[derive(Drop)]
+pub struct Desk {
+    pub ram: [u8; 16384],
+    pub rom: [u8; 4096],
+    pub colour: [u8; 1024],
+    pub out: [u8; 65536],
+}
+
+impl Desk {
+    fn new() -> Desk
+        ensures { Fresh result }
+    {
+        Desk {
+            ram: [0; 16384],
+            rom: [0; 4096],
+            colour: [0; 1024],
+            out: io::large_buffer(),
+        }
+    }
+}
+
+// More than the longest run file, which has 392,195 bytes.
+fn space() -> [u8; 400000]
+    ensures { 400000 ≡ length result }
+{
+    [0; 400000]
+}
+
+// Prints the run file on standard input, and answers what the printer answers.
+pub fn of_input<R, F: FnOnce(&[u8], &mut Desk) -> R>(print: F) -> R
+    requires { F.IsAlwaysCallable print }
+    ensures { Printed F.FnOnce 400000 print result }
+{
+    let mut input = space();
+    let n = io::read_full(STDIN_FILENO, &mut input);
+    print(&input[..n], &mut Desk::new())
+}
+
+// The line `file N`.
+fn announce(number: u16) {
+    let mut text = [0u8; 11];
+    let a = line::text(&mut text, 0, b"file ");
+    let end = line::put(&mut text, a, number, b'\n');
+    flush(&text, end);
+}
+
+// How long the next file of a bundle is, which is read whole; nothing where the bundle ends.
+fn next(space: &mut [u8; 65536]) -> Option<u16> {
+    let mut size = [0u8; 2];
+    let read = io::read_full(STDIN_FILENO, &mut size);
+    let Ok(n) = script::count_of(&size[..read], 0, 65535) else {
+        return None;
+    };
+    let all = io::read_full(STDIN_FILENO, &mut space[..usize::from(n)]);
+    if all == usize::from(n) { Some(n) } else { None }
+}
+
+// Prints a bundle of run files on standard input: each after its length, two bytes with the low one first.
+// A line `file N`, counted from 1, comes before what is printed of each. Answers how many were printed.
+pub fn of_bundle<F: FnMut(&[u8], &mut Desk)>(mut print: F) -> u16
+    requires { F.IsAlwaysCallable print }
+    ensures within { result ≤ 65534 }
+    ensures printed { (after : F) × PrintedAll F.FnMut 65535 result print after }
+{
+    let mut space = io::large_buffer();
+    for number in 1..65535 {
+        let Some(n) = next(&mut space) else {
+            return number - 1;
+        };
+        announce(number);
+        print(&space[..usize::from(n)], &mut Desk::new());
+    }
+    65534
 }

@@ -1,50 +1,28 @@
 -- Two words byte by byte, and a name letter by letter. Assumes nothing.
-use Prim.Native.Nat.{ℕ, suc, ◌+◌, ◌≤◌, ◌<◌}
+use Prim.Native.Nat.{ℕ, suc, ◌≤◌, ◌<◌}
 use mathlib.Core.Path.{◌≡◌, refl, sym, ◌∙◌, ap}
-use mathlib.Core.Bool.{Bool, true, false, not, ◌||◌, cond}
+use mathlib.Core.Bool.{Bool, true, false, not, ◌&&◌, ◌||◌, cond}
 use mathlib.Core.List.{List, [], ◌∷◌}
+use mathlib.Core.Logic.{◌⊎◌, inl, inr}
 use native.Mathlib.Omega.{arith}
-use native.Mathlib.Numerals.{add-one}
 use lib.Dec.{eqb}
 use lib.ListN.{length, drop, get_or, drop_of_length-le}
 use lib.Seq.{drop-cons}
-use borrow.Author.Tests.{eq-eqb, ne_eqb}
+use lib.Pointwise.{pointwise}
+use Rattle.std.specs.Prelude.{nat_eq}
 use Rattle.grammar.specs.Words.{Word, same, lower, name_of}
 
-neither : (t : Bool) → cond t false false ≡ false
-neither true = refl
-neither false = refl
+both : (p q : Bool) → (p && q) ≡ cond p q false
+both true q = refl
+both false q = refl
 
-pub unlike : (a b : Word) → (length a ≡ length b → ⊥) → same a b ≡ false
+-- the library's equality of slices
+pub pointwise_same : (a b : Word) → pointwise nat_eq a b ≡ same a b
 unfolding same
-unlike [] [] n = absurd (n refl)
-unlike [] (y ∷ t) n = refl
-unlike (x ∷ s) [] n = refl
-unlike (x ∷ s) (y ∷ t) n =
-    ap (λ (r : Bool). cond (eqb x y) r false) (unlike s t (λ (e : length s ≡ length t). n (omega arith))) ∙ neither (eqb x y)
-
--- one byte off each
-opened : (a b : Word) (i : ℕ) → i < length a → i < length b
-    → same (drop i a) (drop i b) ≡ cond (eqb (get_or a i 0) (get_or b i 0)) (same (drop (i + 1) a) (drop (i + 1) b)) false
-unfolding same
-opened a b i h k = rw (add-one i, drop-cons a i 0 h, drop-cons b i 0 k) refl
-
-pub next : (a b : Word) (i : ℕ) → i < length a → length a ≡ length b → get_or a i 0 ≡ get_or b i 0
-    → same (drop i a) (drop i b) ≡ same (drop (i + 1) a) (drop (i + 1) b)
-next a b i h l e =
-    opened a b i h (omega arith)
-    ∙ ap (λ (t : Bool). cond t (same (drop (i + 1) a) (drop (i + 1) b)) false) (eq-eqb (get_or a i 0) (get_or b i 0) e)
-
-pub differ : (a b : Word) (i : ℕ) → i < length a → length a ≡ length b → (get_or a i 0 ≡ get_or b i 0 → ⊥) → same (drop i a) (drop i b) ≡ false
-differ a b i h l n =
-    opened a b i h (omega arith)
-    ∙ ap (λ (t : Bool). cond t (same (drop (i + 1) a) (drop (i + 1) b)) false) (ne_eqb (get_or a i 0) (get_or b i 0) n)
-
-pub through : (a b : Word) (i : ℕ) → length a ≤ i → length a ≡ length b → same (drop i a) (drop i b) ≡ true
-unfolding same
-through a b i h l =
-    let k : length b ≤ i = omega arith in
-    simp (drop_of_length-le a {i = i} h, drop_of_length-le b {i = i} k)
+pointwise_same [] [] = refl
+pointwise_same [] (y ∷ t) = refl
+pointwise_same (x ∷ s) [] = refl
+pointwise_same (x ∷ s) (y ∷ t) = both (eqb x y) (pointwise nat_eq s t) ∙ ap (λ (r : Bool). cond (eqb x y) r false) (pointwise_same s t)
 
 -- ---- names
 
@@ -74,20 +52,35 @@ pub ends_over : (w : Word) (i : ℕ) → length w ≤ i → same (name_of (drop 
 unfolding name_of same
 ends_over w i h = simp (drop_of_length-le w {i = i} h)
 
-module _ (w name : Word) (i : ℕ) (inside : i < length name) where
-  pub short : length w ≤ i → same (name_of (drop i w)) (drop i name) ≡ false
-  unfolding name_of same
-  short h = simp (drop_of_length-le w {i = i} h, drop-cons name i 0 inside)
+pub short : (w name : Word) → length w < length name → same (name_of w) name ≡ false
+unfolding name_of same
+short w [] h = absurd (omega (arith, h))
+short [] (n ∷ ns) h = refl
+short (b ∷ s) (n ∷ ns) h = letter b n s ns ∙ by (eqb b 91 || not (eqb (lower b) n)) _ (short s ns (omega (arith, h)))
+  where
+    by : (p r : Bool) → r ≡ false → cond p false r ≡ false
+    by true r e = refl
+    by false r e = e
 
-  letters : i < length w → same (name_of (drop i w)) (drop i name) ≡ cond (eqb (get_or w i 0) 91 || not (eqb (lower (get_or w i 0)) (get_or name i 0))) false (same (name_of (drop (i + 1) w)) (drop (i + 1) name))
-  letters h = rw (add-one i, drop-cons w i 0 h, drop-cons name i 0 inside) (letter (get_or w i 0) (get_or name i 0) (drop (suc i) w) (drop (suc i) name))
+-- what is left of a word and of a name, and what is left after a letter more
+module _ (w name s ns : Word) (b n : ℕ) (e : w ≡ b ∷ s) (f : name ≡ n ∷ ns) where
+  letters : same (name_of w) name ≡ cond (eqb b 91 || not (eqb (lower b) n)) false (same (name_of s) ns)
+  letters = rw (e, f) (letter b n s ns)
 
-  module _ (h : i < length w) (d : Bool) (e : d ≡ (eqb (get_or w i 0) 91 || not (eqb (lower (get_or w i 0)) (get_or name i 0)))) where
-    pub other : d ≡ true → same (name_of (drop i w)) (drop i name) ≡ false
-    other t = letters h ∙ ap (λ (x : Bool). cond x false (same (name_of (drop (i + 1) w)) (drop (i + 1) name))) (sym e ∙ t)
+  module _ (d : Bool) (g : d ≡ (eqb b 91 || not (eqb (lower b) n))) where
+    pub other : d ≡ true → same (name_of w) name ≡ false
+    other t = letters ∙ ap (λ (x : Bool). cond x false (same (name_of s) ns)) (sym g ∙ t)
 
-    pub alike : d ≡ false → same (name_of (drop i w)) (drop i name) ≡ same (name_of (drop (i + 1) w)) (drop (i + 1) name)
-    alike t = letters h ∙ ap (λ (x : Bool). cond x false (same (name_of (drop (i + 1) w)) (drop (i + 1) name))) (sym e ∙ t)
+    pub alike : d ≡ false → same (name_of w) name ≡ same (name_of s) ns
+    alike t = letters ∙ ap (λ (x : Bool). cond x false (same (name_of s) ns)) (sym g ∙ t)
 
-pub named_out : (w name : Word) (i : ℕ) → length name ≤ i → same (name_of (drop i w)) (drop i name) ≡ same (name_of (drop i w)) []
-named_out w name i h = ap (same (name_of (drop i w))) (drop_of_length-le name {i = i} h)
+  pub fewer : length name ≤ length w → length ns ≤ length s
+  fewer h = omega (arith, h, ap length e, ap length f)
+
+  pub left : drop (length name) w ≡ drop (length ns) s
+  left = rw (e, f) refl
+
+pub named_out : (w name : Word) → length name ≤ length w → (w ≡ []) ⊎ (name ≡ []) → same (name_of w) name ≡ same (name_of (drop (length name) w)) []
+named_out w [] h o = refl
+named_out w (n ∷ ns) h (inl e) = absurd (omega (arith, h, ap length e))
+named_out w (n ∷ ns) h (inr e) = absurd (omega (arith, ap length e))

@@ -5,49 +5,35 @@ ghost use Rattle.std.specs.Prelude.{◌≡◌, ◌||◌, not, [], ◌+◌, ◌*�
 ghost use Rattle.grammar.specs.Words.{same, lower, name_of};
 ghost use Rattle.grammar.specs.Signals.{which_of, size_of, width_of, full_of};
 ghost use Rattle.grammar.specs.Values.{is_bit, is_unknown, shifted, none, broken, above, known_on, hidden_on, digit_on, digits_from};
-ghost use Rattle.grammar.specs.Times.{never, time_by, time_on, time_of};
+ghost use Rattle.grammar.specs.Times.{time_by, time_on, time_from, time_of};
 
-use grammar::{Digits, Time};
+use grammar::Digits;
 
 // ---- words
 
 pub fn same(a: &[u8], b: &[u8]) -> bool
     ensures { result ≡ same a.now b.now }
 {
-    if a.len() != b.len() {
-        return false;
-    }
-    let mut i = 0;
-    while i < a.len() {
-        if a[i] != b[i] {
-            return false;
-        }
-        i += 1;
-    }
-    true
+    a == b
 }
 
 // A capital as a small letter.
+#[tactic(auto, unfolding(grammar::specs::Words::lower))]
 pub fn lower(b: u8) -> u8
     ensures { result ≡ lower b }
 {
-    if b < 65 {
-        return b;
-    }
-    if 90 < b {
-        return b;
-    }
-    b + 32
+    b.to_ascii_lowercase()
 }
 
 // Whether a name ends here: with the word, or at a `[`.
+#[tactic(auto, using(crate::proofs::Alike::ends_at, crate::proofs::Alike::ends_over))]
 fn ends(word: &[u8], at: usize) -> bool
     ensures { result ≡ same (name_of (drop at word.now)) [] }
 {
-    if word.len() <= at {
-        return true;
+    match word.get(at) {
+        Some(b) => *b == b'[',
+        None => true,
     }
-    word[at] == b'['
 }
 
 fn differs(b: u8, letter: u8) -> bool
@@ -59,20 +45,19 @@ fn differs(b: u8, letter: u8) -> bool
 fn named(word: &[u8], name: &[u8]) -> bool
     ensures { result ≡ same (name_of word.now) name.now }
 {
-    let mut i = 0;
-    while i < name.len() {
-        if word.len() <= i {
-            return false;
-        }
-        if differs(word[i], name[i]) {
-            return false;
-        }
-        i += 1;
+    if word.len() < name.len() {
+        return false;
     }
-    ends(word, i)
+    for (b, letter) in word.iter().zip(name) {
+        if differs(*b, *letter) {
+            return false;
+        }
+    }
+    ends(word, name.len())
 }
 
 // Which of the eight a name is; 8 for another.
+#[tactic(auto, unfolding(grammar::specs::Signals::which_of, line::specs::Text::ascii))]
 pub fn which_of(word: &[u8]) -> u8
     ensures { result ≡ which_of word.now }
 {
@@ -104,6 +89,7 @@ pub fn which_of(word: &[u8]) -> u8
 }
 
 // A size's text as the number, where it is one of the eight's; else 0.
+#[tactic(auto, unfolding(grammar::specs::Signals::size_of, line::specs::Text::ascii))]
 pub fn size_of(word: &[u8]) -> u8
     ensures { result ≡ size_of word.now }
 {
@@ -129,47 +115,33 @@ pub fn size_of(word: &[u8]) -> u8
 }
 
 // The size of each of the eight.
+#[tactic(auto, unfolding(grammar::specs::Signals::width_of))]
 pub fn width_of(which: u8) -> u8
     ensures { result ≡ width_of which }
 {
-    if which == 0 {
-        return 7;
+    match which {
+        0 => 7,
+        1 => 9,
+        4 => 8,
+        5 => 3,
+        6 => 10,
+        _ => 1,
     }
-    if which == 1 {
-        return 9;
-    }
-    if which == 4 {
-        return 8;
-    }
-    if which == 5 {
-        return 3;
-    }
-    if which == 6 {
-        return 10;
-    }
-    1
 }
 
 // All its bits.
+#[tactic(auto, unfolding(grammar::specs::Signals::full_of))]
 pub fn full_of(which: u8) -> u16
     ensures { (result ≡ full_of which) × (result ≤ 1023) }
 {
-    if which == 0 {
-        return 127;
+    match which {
+        0 => 127,
+        1 => 511,
+        4 => 255,
+        5 => 7,
+        6 => 1023,
+        _ => 1,
     }
-    if which == 1 {
-        return 511;
-    }
-    if which == 4 {
-        return 255;
-    }
-    if which == 5 {
-        return 7;
-    }
-    if which == 6 {
-        return 1023;
-    }
-    1
 }
 
 // ---- digits
@@ -177,14 +149,13 @@ pub fn full_of(which: u8) -> u16
 pub fn is_bit(b: u8) -> bool
     ensures { result ≡ is_bit b }
 {
-    (b == b'0') | (b == b'1')
+    matches!(b, b'0' | b'1')
 }
 
 pub fn is_unknown(b: u8) -> bool
     ensures { result ≡ is_unknown b }
 {
-    let c = lower(b);
-    (c == b'x') | (c == b'z') | (c == b'u') | (c == b'w') | (c == b'l') | (c == b'h') | (c == b'-')
+    matches!(lower(b), b'x' | b'z' | b'u' | b'w' | b'l' | b'h' | b'-')
 }
 
 fn shifted(bits: u16, bit: u16) -> u16
@@ -219,6 +190,7 @@ pub fn broken() -> Digits
 }
 
 // What is unknown after a 0 or a 1: nothing above a first one.
+#[tactic(auto, unfolding(grammar::specs::Values::above))]
 fn above(ones: u16, unknown: u16) -> u16
     ensures { result ≡ above ones unknown }
 {
@@ -233,10 +205,10 @@ fn known(d: Digits, b: u8) -> Digits
     ensures { result ≡ known_on d b }
 {
     Digits {
-        value: shifted(d.value, laws::wide(b % 2)),
+        value: shifted(d.value, u16::from(b % 2)),
         unknown: above(d.ones, d.unknown),
         ones: shifted(d.ones, 1),
-        fine: d.fine,
+        ..d
     }
 }
 
@@ -248,11 +220,12 @@ fn hidden(d: Digits) -> Digits
         value: shifted(d.value, 0),
         unknown: shifted(d.unknown, 1),
         ones: shifted(d.ones, 1),
-        fine: d.fine,
+        ..d
     }
 }
 
 // A digit more.
+#[tactic(auto, unfolding(grammar::specs::Values::digit_on))]
 fn digit(d: Digits, b: u8) -> Digits
     ensures { result ≡ digit_on d b }
 {
@@ -273,72 +246,52 @@ pub fn digits_of(text: &[u8]) -> Digits
     ensures { result ≡ digits_from none text.now }
 {
     let mut d = none();
-    let mut i = 0;
-    while i < text.len() {
-        d = digit(d, text[i]);
-        i += 1;
+    for b in text {
+        d = digit(d, *b);
     }
     d
 }
 
 // ---- a time
 
-fn never() -> Time
-    ensures { result ≡ never }
-{
-    Time {
-        value: 0,
-        fine: false,
-    }
-}
-
-// The largest time that another digit can follow.
-fn tenth(digit: u64) -> u64
-    requires { digit < 10 }
-    ensures { (result * 10 + digit < 18446744073709551616) × (18446744073709551616 ≤ result * 10 + 10 + digit) }
-{
-    if digit < 6 {
-        return 1844674407370955161;
-    }
-    1844674407370955160
-}
-
-fn on(t: Time, digit: u64) -> Time
+// A digit more; none where 64 bits have no room for it.
+#[tactic(auto, unfolding(grammar::specs::Times::time_by))]
+fn on(t: u64, digit: u64) -> Option<u64>
     requires { digit < 10 }
     ensures { result ≡ time_by t digit }
 {
-    if t.value <= tenth(digit) {
-        return Time {
-            value: t.value * 10 + digit,
-            fine: t.fine,
-        };
-    }
-    never()
+    t.checked_mul(10)?.checked_add(digit)
 }
 
-fn time_digit(t: Time, b: u8) -> Time
+#[tactic(auto, unfolding(grammar::specs::Times::time_on))]
+fn time_digit(t: Option<u64>, b: u8) -> Option<u64>
     ensures { result ≡ time_on t b }
 {
-    if b < 48 {
-        return never();
-    }
-    if 57 < b {
-        return never();
+    let t = t?;
+    if !b.is_ascii_digit() {
+        return None;
     }
     on(t, (b - 48) as u64)
 }
 
-pub fn time_of(text: &[u8]) -> Time
-    ensures { result ≡ time_of text.now }
+// What a text's digits make of a time so far.
+fn time_from(start: Option<u64>, text: &[u8]) -> Option<u64>
+    ensures { result ≡ time_from start text.now }
 {
-    let mut t = Time {
-        value: 0,
-        fine: 0 < text.len(),
-    };
-    let mut i = 0;
-    while i < text.len() {
-        t = time_digit(t, text[i]);
-        i += 1;
+    let mut t = start;
+    for b in text {
+        t = time_digit(t, *b);
     }
     t
+}
+
+// A time's digits; none where they are no time.
+#[tactic(auto, unfolding(grammar::specs::Times::time_of))]
+pub fn time_of(text: &[u8]) -> Option<u64>
+    ensures { result ≡ time_of text.now }
+{
+    if text.is_empty() {
+        return time_from(None, text);
+    }
+    time_from(Some(0), text)
 }

@@ -1,6 +1,7 @@
 -- A turn from its parts: what the driver made and what was told, by the names of the definitions. Assumes nothing.
 use Prim.Native.Nat.{ℕ, ◌+◌, ◌≤◌}
 use mathlib.Core.Path.{◌≡◌, sym, ◌∙◌, ap, subst}
+use mathlib.Core.Bool.{Bool, true, false, cond}
 use mathlib.Core.List.{List}
 use Rattle.script.specs.declared.Found.{Found}
 use Rattle.driver.specs.declared.Made.{Made}
@@ -27,3 +28,8 @@ module _ (m after-m : Store) (b r : Tape) (x : Made) (found : Found) (n : Noted)
       ) in
       let there = subst Turn made-is here in
       (there.0, (there.1.0, (there.1.1, f)))
+
+-- a tape at the place where its next piece goes
+pub roomed_by : (t : Tape) (b : Bool) {at : ℕ} → at ≡ cond b t.at 0 → tape t.run t.wave at ≡ cond b t (tape t.run t.wave 0)
+roomed_by t true e = ap (tape t.run t.wave) e
+roomed_by t false e = ap (tape t.run t.wave) e

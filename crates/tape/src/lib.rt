@@ -8,12 +8,11 @@ ghost use Rattle.sheet.specs.Chart.{Ends};
 ghost use Rattle.vcd.specs.Text.{piece_of, wave_after};
 ghost use Rattle.wave.specs.Wave.{record_of};
 ghost use Rattle.tape.specs.Dump.{played_of, dump_of};
-ghost use Rattle.tape.specs.Machinery.Tape.{text_by, wave_by, tape, begun_of, roomed, said_on, tape_on};
+ghost use Rattle.tape.specs.Machinery.Tape.{text_by, wave_by, begun_of, roomed, said_on, tape_on};
 
 use chip::Chip;
 use driver::{Event, Run};
 use script::Found;
-use streams::STDOUT_FILENO;
 use vcd::Wave;
 
 // A run on its way: the ticks written so far, and the text goes on at `at`.
@@ -31,16 +30,14 @@ pub struct Noted {
     pub at: usize,
 }
 
-fn on_tape(run: Run, wave: Wave, at: usize) -> Tape
-    ensures { result ≡ tape run wave at }
-{
-    Tape { run, wave, at }
-}
-
 fn begun(kind: u8, at: usize) -> Tape
     ensures { result ≡ begun_of kind at }
 {
-    on_tape(driver::begun(kind), vcd::fresh(), at)
+    Tape {
+        run: driver::begun(kind),
+        wave: vcd::fresh(),
+        at,
+    }
 }
 
 // ---- the text
@@ -52,9 +49,8 @@ fn tick(out: &mut [u8], at: usize, chip: Chip, wave: Wave) -> Noted
 {
     let values = wave::record_of(chip);
     let end = vcd::piece(out, at, wave, values);
-    let next = vcd::after(wave, values);
     Noted {
-        wave: next,
+        wave: vcd::after(wave, values),
         at: end,
     }
 }
@@ -90,36 +86,24 @@ fn turn(
     ensures written { Written out.old before.at (said_on (store ram.old rom.old colour.old) before found) out.new result.at }
     ensures colour_after { store ram.new rom.new colour.new ≡ store_at (store ram.old rom.old colour.old) found.item }
 {
-    let run0 = before.run;
-    let wave0 = before.wave;
-    let made = driver::turn(run0, found, ram, rom, colour);
-    let run = made.run;
-    let event = made.event;
-    let noted = told(out, before.at, event, run, wave0);
-    let wave = noted.wave;
-    on_tape(run, wave, noted.at)
+    let made = driver::turn(before.run, found, ram, rom, colour);
+    let noted = told(out, before.at, made.event, made.run, before.wave);
+    Tape {
+        run: made.run,
+        wave: noted.wave,
+        at: noted.at,
+    }
 }
 
 // ---- the blocks
-
-fn flush(out: &[u8], at: usize)
-    requires { at ≤ length out.now }
-{
-    io::write_all(STDOUT_FILENO, &out[..at]);
-}
 
 // Room for a piece: where there is none, what is there is written out.
 fn with_room(before: Tape, out: &[u8]) -> Tape
     requires { before.at ≤ length out.now }
     ensures { result ≡ roomed before }
 {
-    if before.at <= 65244 {
-        return before;
-    }
-    flush(out, before.at);
-    let run = before.run;
-    let wave = before.wave;
-    on_tape(run, wave, 0)
+    let at = sheet::room(out, before.at, 65244);
+    Tape { at, ..before }
 }
 
 // The whole dump of a run on a kind of chip to standard output, and the run as it ended. The memory that is lent is the run's own, and starts 0.
@@ -136,15 +120,13 @@ pub fn print(
     ensures colour_after { store ram.new rom.new colour.new ≡ (played_of kind (store ram.old rom.old colour.old) input.now).store }
     ensures ends { Ends (dump_of kind (store ram.old rom.old colour.old) input.now) out.new result.at }
 {
-    let start = vcd::declare(&mut *out, 0);
+    let start = vcd::declare(out, 0);
     let mut tape = begun(kind, start);
     while tape.run.going {
         let roomy = with_room(tape, out);
-        let run = roomy.run;
-        let cursor = run.cursor;
-        let found = cursor.next(input);
-        tape = turn(roomy, found, &mut *ram, &mut *rom, &mut *colour, &mut *out);
+        let found = roomy.run.cursor.next(input);
+        tape = turn(roomy, found, ram, rom, colour, out);
     }
-    flush(out, tape.at);
+    sheet::flush(out, tape.at);
     tape
 }

@@ -1,7 +1,7 @@
 // The beam: cycle and raster line, the DEN latch, the bad line with its rise, and the BA output that a bad line asks for.
 #![tactic(auto)]
 
-ghost use Rattle.std.specs.Prelude.{◌≡◌, Bool};
+ghost use Rattle.std.specs.Prelude.{◌≡◌};
 ghost use Rattle.schedule.specs.Kind.{kind_of};
 ghost use Rattle.timing.specs.Beam.{bad_line, latched, ba_output, next_cycle, at_last_line, next_line, fresh, beam_turned};
 
@@ -23,6 +23,7 @@ pub struct Beam {
 }
 
 // Whether a raster line is a bad one.
+#[tactic(auto, unfolding(crate::specs::Beam::bad_line))]
 pub fn bad_line(raster: u16, yscroll: u8, latch: bool) -> bool
     ensures { result ≡ bad_line raster yscroll latch }
 {
@@ -38,12 +39,14 @@ pub fn latched(begins: bool, line: u16, den: bool, latch: bool) -> bool
 }
 
 // The level of the BA output: low where a bad line asks for the matrix.
+#[tactic(auto, unfolding(crate::specs::Beam::ba_output))]
 pub fn ba_output(bad: bool, cycle: u16) -> bool
     ensures { result ≡ ba_output bad cycle }
 {
     !(bad & schedule::matrix_request(cycle))
 }
 
+#[tactic(auto, unfolding(crate::specs::Beam::next_cycle))]
 pub fn next_cycle(kind: u8, cycle: u16) -> u16
     ensures { result ≡ next_cycle (kind_of kind) cycle }
 {
@@ -54,6 +57,7 @@ pub fn next_cycle(kind: u8, cycle: u16) -> u16
     }
 }
 
+#[tactic(auto, unfolding(crate::specs::Beam::at_last_line))]
 pub fn at_last_line(kind: u8, raster: u16) -> bool
     ensures { result ≡ at_last_line (kind_of kind) raster }
 {
@@ -61,6 +65,7 @@ pub fn at_last_line(kind: u8, raster: u16) -> bool
 }
 
 // The line after this one; the last one waits for the frame's end.
+#[tactic(auto, unfolding(crate::specs::Beam::next_line))]
 pub fn next_line(kind: u8, raster: u16) -> u16
     ensures { result ≡ next_line (kind_of kind) raster }
 {
@@ -73,15 +78,14 @@ pub fn next_line(kind: u8, raster: u16) -> u16
 
 impl Beam {
     // Just before cycle 1 of the frame's end, as at power-up.
+    #[tactic(auto, unfolding(crate::specs::Beam::fresh))]
     pub fn new(kind: u8) -> Self
         ensures { result ≡ fresh kind }
     {
-        let cycle = schedule::last_cycle(kind);
-        let raster = schedule::last_line(kind);
         Self {
-            kind: kind,
-            cycle: cycle,
-            raster: raster,
+            kind,
+            cycle: schedule::last_cycle(kind),
+            raster: schedule::last_line(kind),
             den: false,
             rsel: false,
             yscroll: 0,
@@ -93,8 +97,9 @@ impl Beam {
     }
 
     // The beam after a tick: where it is, the control bits that the tick found, the bad line by the tick's latch, its rise, BA, and the latch that stays.
+    #[tactic(auto, unfolding(crate::specs::Beam::beam_turned))]
     pub fn turn(
-        mut self,
+        self,
         cycle: u16,
         line: u16,
         latch: bool,
@@ -107,15 +112,17 @@ impl Beam {
         ensures { result ≡ beam_turned self cycle line latch kept raster den rsel yscroll }
     {
         let bad = bad_line(line, yscroll, latch);
-        self.cycle = cycle;
-        self.raster = raster;
-        self.den = den;
-        self.rsel = rsel;
-        self.yscroll = yscroll;
-        self.latch = kept;
-        self.rising = bad & !self.bad;
-        self.bad = bad;
-        self.ba = ba_output(bad, cycle);
-        self
+        Beam {
+            cycle,
+            raster,
+            den,
+            rsel,
+            yscroll,
+            latch: kept,
+            bad,
+            rising: bad & !self.bad,
+            ba: ba_output(bad, cycle),
+            ..self
+        }
     }
 }

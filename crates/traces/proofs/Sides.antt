@@ -22,7 +22,7 @@ use Rattle.arbitration.specs.declared.Bus.{Bus}
 use Rattle.arbitration.specs.Bus as Buses
 use Rattle.arbitration.specs.Set.{clock≔, fall≔, rise≔, aec≔, balow≔, aeclow≔, lost≔}
 use Rattle.rows.specs.Pending.{waits, pending_after}
-use Rattle.rows.specs.declared.Pending.TheVariants.{Nothing}
+use Rattle.std.specs.Prelude.{None}
 use Rattle.rows.specs.declared.Rows.{Rows}
 use Rattle.side.specs.declared.Side.{Side}
 use Rattle.raster.specs.Frame as Frames
@@ -87,7 +87,7 @@ past_of kind line flags latch border sprites bus rows =
       sprites = sprites;
       bus = bus;
       rows = rows;
-      pending = waits Nothing;
+      pending = waits None;
       changed = false;
       refresh = (0xFF + (0x100 - 5) * (line + 1)) % 0x100;
     }

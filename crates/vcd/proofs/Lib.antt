@@ -1,4 +1,3 @@
-pub mod Digits
 pub mod Copy
 pub mod Pieces
 pub mod Played

@@ -1,6 +1,7 @@
 -- The text of a dump, piece by piece.
-use Rattle.std.specs.Prelude.{ℕ, zero, suc, ◌+◌, ◌-◌, ◌/◌, ◌%◌, true, false, cond, List, [], ◌∷◌, ◌++◌, eqb, ltb}
+use Rattle.std.specs.Prelude.{ℕ, ◌+◌, ◌-◌, ◌%◌, true, false, cond, List, [], ◌∷◌, ◌++◌, eqb, ltb}
 use Rattle.line.specs.Text.{ascii, text_of}
+unfoldable pub use Rattle.line.specs.Text.{digits_of}
 use Rattle.vcd.specs.declared.Record.{Record}
 use Rattle.vcd.specs.declared.Wave.{Wave}
 use Rattle.vcd.specs.Signals.{Change, width_of, changes_of, all_of}
@@ -21,11 +22,6 @@ declarations =
     ++ ascii "$var wire 1 H irq $end\n"
     ++ ascii "$upscope $end\n"
     ++ ascii "$enddefinitions $end\n"
-
--- a number's digits in a base, the fewest that hold it; at most as many as the second number says, and one
-unfoldable pub digits_of : ℕ → ℕ → ℕ → List ℕ
-digits_of b zero n = (48 + n % b) ∷ []
-digits_of b (suc more) n = cond (ltb n b) ((48 + n) ∷ []) (digits_of b more (n / b) ++ ((48 + n % b) ∷ []))
 
 -- the k-th capital is signal k's identifier
 abbrev pub id_of : ℕ → ℕ

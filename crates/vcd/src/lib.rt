@@ -29,48 +29,12 @@ pub struct Wave {
 
 // ---- text at a place of a buffer; each answers the place after it
 
-// A number in decimal, of one digit and at most so many more.
-fn decimal(out: &mut [u8], at: usize, more: u16, n: u64) -> usize
-    requires { at + more + 1 ≤ length out.old }
-    ensures { (result ≤ at + more + 1) × Written out.old at (digits_of 10 more n) out.new result }
-{
-    if (more == 0) | (n < 10) {
-        return line::byte(&mut *out, at, (48 + n % 10) as u8);
-    }
-    let a = decimal(&mut *out, at, more - 1, n / 10);
-    line::byte(&mut *out, a, (48 + n % 10) as u8)
-}
-
-// The same in binary.
-fn binary(out: &mut [u8], at: usize, more: u16, n: u16) -> usize
-    requires { at + more + 1 ≤ length out.old }
-    ensures { (result ≤ at + more + 1) × Written out.old at (digits_of 2 more n) out.new result }
-{
-    if (more == 0) | (n < 2) {
-        return line::byte(&mut *out, at, (48 + n % 2) as u8);
-    }
-    let a = binary(&mut *out, at, more - 1, n / 2);
-    line::byte(&mut *out, a, (48 + n % 2) as u8)
-}
-
-// ---- a signal's value
-
-// An identifier and the line's end.
-fn name(out: &mut [u8], at: usize, signal: u8) -> usize
-    requires { (at + 2 ≤ length out.old) × (signal < 8) }
-    ensures { (result ≡ at + 2) × Written out.old at ((65 + signal) ∷ 10 ∷ []) out.new result }
-{
-    let a = line::byte(&mut *out, at, 65 + signal);
-    line::byte(&mut *out, a, b'\n')
-}
-
 // A signal of one bit.
 fn bit(out: &mut [u8], at: usize, signal: u8, value: u16) -> usize
     requires { (at + 3 ≤ length out.old) × (signal < 8) }
     ensures { (result ≡ at + 3) × Written out.old at ((48 + value % 2) ∷ (65 + signal) ∷ 10 ∷ []) out.new result }
 {
-    let a = line::byte(&mut *out, at, (48 + value % 2) as u8);
-    name(&mut *out, a, signal)
+    line::text(out, at, &[(48 + value % 2) as u8, 65 + signal, b'\n'])
 }
 
 // A signal of several bits.
@@ -78,10 +42,9 @@ fn vector(out: &mut [u8], at: usize, signal: u8, more: u16, value: u16) -> usize
     requires { (at + more + 5 ≤ length out.old) × (signal < 8) }
     ensures { (result ≤ at + more + 5) × Written out.old at (98 ∷ (digits_of 2 more value ++ (32 ∷ (65 + signal) ∷ 10 ∷ []))) out.new result }
 {
-    let a = line::byte(&mut *out, at, b'b');
-    let b = binary(&mut *out, a, more, value);
-    let c = line::byte(&mut *out, b, b' ');
-    name(&mut *out, c, signal)
+    let a = line::byte(out, at, b'b');
+    let b = line::digits(out, a, 2, more, u64::from(value));
+    line::text(out, b, &[b' ', 65 + signal, b'\n'])
 }
 
 // A signal's line.
@@ -113,10 +76,10 @@ fn beam(out: &mut [u8], at: usize, all: bool, was: Record, r: Record) -> usize
     requires { at + 56 ≤ length out.old }
     ensures { (result ≤ at + 56) × Written out.old at (beam_text all was r) out.new result }
 {
-    let a = part(&mut *out, at, 0, 7, all, was.cycle, r.cycle);
-    let b = part(&mut *out, a, 1, 9, all, was.raster, r.raster);
-    let c = part(&mut *out, b, 2, 1, all, was.ba, r.ba);
-    part(&mut *out, c, 3, 1, all, was.aec, r.aec)
+    let a = part(out, at, 0, 7, all, was.cycle, r.cycle);
+    let b = part(out, a, 1, 9, all, was.raster, r.raster);
+    let c = part(out, b, 2, 1, all, was.ba, r.ba);
+    part(out, c, 3, 1, all, was.aec, r.aec)
 }
 
 // The last four.
@@ -124,18 +87,18 @@ fn rest(out: &mut [u8], at: usize, all: bool, was: Record, r: Record) -> usize
     requires { at + 56 ≤ length out.old }
     ensures { (result ≤ at + 56) × Written out.old at (rest_text all was r) out.new result }
 {
-    let a = part(&mut *out, at, 4, 8, all, was.dma, r.dma);
-    let b = part(&mut *out, a, 5, 3, all, was.rc, r.rc);
-    let c = part(&mut *out, b, 6, 10, all, was.vc, r.vc);
-    part(&mut *out, c, 7, 1, all, was.irq, r.irq)
+    let a = part(out, at, 4, 8, all, was.dma, r.dma);
+    let b = part(out, a, 5, 3, all, was.rc, r.rc);
+    let c = part(out, b, 6, 10, all, was.vc, r.vc);
+    part(out, c, 7, 1, all, was.irq, r.irq)
 }
 
 fn values(out: &mut [u8], at: usize, all: bool, was: Record, r: Record) -> usize
     requires { at + 112 ≤ length out.old }
     ensures { (result ≤ at + 112) × Written out.old at (beam_text all was r ++ rest_text all was r) out.new result }
 {
-    let a = beam(&mut *out, at, all, was, r);
-    rest(&mut *out, a, all, was, r)
+    let a = beam(out, at, all, was, r);
+    rest(out, a, all, was, r)
 }
 
 // ---- the pieces
@@ -157,9 +120,9 @@ fn first(out: &mut [u8], at: usize, r: Record) -> usize
     requires { at + 130 ≤ length out.old }
     ensures { (result ≤ at + 130) × Written out.old at (first_text r) out.new result }
 {
-    let a = line::text(&mut *out, at, b"#0\n$dumpvars\n");
-    let b = values(&mut *out, a, true, r, r);
-    line::text(&mut *out, b, b"$end\n")
+    let a = line::text(out, at, b"#0\n$dumpvars\n");
+    let b = values(out, a, true, r, r);
+    line::text(out, b, b"$end\n")
 }
 
 // A time mark.
@@ -167,9 +130,9 @@ fn mark(out: &mut [u8], at: usize, time: u64) -> usize
     requires { at + 22 ≤ length out.old }
     ensures { (result ≤ at + 22) × Written out.old at (mark_text time) out.new result }
 {
-    let a = line::byte(&mut *out, at, b'#');
-    let b = decimal(&mut *out, a, 19, time);
-    line::byte(&mut *out, b, b'\n')
+    let a = line::byte(out, at, b'#');
+    let b = line::digits(out, a, 10, 19, time);
+    line::byte(out, b, b'\n')
 }
 
 // A later tick: its time, and the values that changed.
@@ -177,8 +140,8 @@ fn later(out: &mut [u8], at: usize, time: u64, was: Record, r: Record) -> usize
     requires { at + 134 ≤ length out.old }
     ensures { (result ≤ at + 134) × Written out.old at (later_text time was r) out.new result }
 {
-    let a = mark(&mut *out, at, time);
-    values(&mut *out, a, false, was, r)
+    let a = mark(out, at, time);
+    values(out, a, false, was, r)
 }
 
 // The comment that ends a run that is refused.
@@ -186,10 +149,10 @@ pub fn refused(out: &mut [u8], at: usize, number: u8, done: u16) -> usize
     requires { at + 34 ≤ length out.old }
     ensures { (result ≡ at + length (refusal_text number done)) × (out.new ≡ pasted out.old at (refusal_text number done)) }
 {
-    let a = line::text(&mut *out, at, b"$comment refused ");
-    let b = line::put(&mut *out, a, laws::wide(number), b' ');
-    let c = line::put(&mut *out, b, done, b' ');
-    line::text(&mut *out, c, b"$end\n")
+    let a = line::text(out, at, b"$comment refused ");
+    let b = line::put(out, a, u16::from(number), b' ');
+    let c = line::put(out, b, done, b' ');
+    line::text(out, c, b"$end\n")
 }
 
 // ---- tick after tick
@@ -197,31 +160,28 @@ pub fn refused(out: &mut [u8], at: usize, number: u8, done: u16) -> usize
 pub fn fresh() -> Wave
     ensures { result ≡ fresh }
 {
-    let last = Record {
-        cycle: 0,
-        raster: 0,
-        ba: 0,
-        aec: 0,
-        dma: 0,
-        rc: 0,
-        vc: 0,
-        irq: 0,
-    };
     Wave {
         begun: false,
         time: 0,
-        last,
+        last: Record {
+            cycle: 0,
+            raster: 0,
+            ba: 0,
+            aec: 0,
+            dma: 0,
+            rc: 0,
+            vc: 0,
+            irq: 0,
+        },
     }
 }
 
 // One unit later; the last time of 64 bits stays, and no run gets there: the clock refuses before.
+#[tactic(auto, unfolding(crate::specs::Text::next_time))]
 fn next(time: u64) -> u64
     ensures { result ≡ next_time time }
 {
-    if time < 18446744073709551615 {
-        return time + 1;
-    }
-    time
+    time.saturating_add(1)
 }
 
 // The next tick's time.

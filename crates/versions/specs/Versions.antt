@@ -1,5 +1,6 @@
 -- The versions of a scene. Writing writes the newest, 5; an older scene is renewed, and then read as the newest is.
 use Rattle.std.specs.Prelude.{ℕ, ◌+◌, ◌<◌, Bool, ◌&&◌, cond, List, [], ◌∷◌, ◌++◌, eqb, ltb, length, get_or, set}
+use Rattle.std.specs.List.{list_all}
 
 -- a field of a list of bytes, by its place
 abbrev pub byte_at : List ℕ → ℕ → ℕ
@@ -12,6 +13,10 @@ Bytes s = (i : ℕ) → byte_at s i < 256
 -- FORMATS, Scene: a flag is 0 or 1
 abbrev pub is_flag : List ℕ → ℕ → Bool
 is_flag s i = ltb (byte_at s i) 2
+
+-- each of these bytes is a flag
+abbrev pub are_flags : List ℕ → Bool
+are_flags s = list_all (λ b. ltb b 2) s
 
 -- FORMATS, Scene: a version has its length, and its number in byte 3
 abbrev pub is_version : ℕ → ℕ → List ℕ → Bool

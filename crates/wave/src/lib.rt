@@ -28,21 +28,15 @@ pub struct Told {
 pub fn record_of(chip: Chip) -> Record
     ensures { result ≡ record_of chip }
 {
-    let side = chip.side;
-    let beam = side.beam;
-    let bus = side.bus;
-    let sprites = side.sprites;
-    let rows = side.rows;
-    let irq = side.irq;
     Record {
-        cycle: beam.cycle,
-        raster: beam.raster,
-        ba: laws::pick16(bus.balow, 0, 1),
-        aec: laws::pick16(bus.aeclow, 0, 1),
-        dma: laws::wide(sprites.dma) % 256,
-        rc: laws::wide(rows.rc),
-        vc: rows.vc,
-        irq: laws::pick16(irq.line, 0, 1),
+        cycle: chip.side.beam.cycle,
+        raster: chip.side.beam.raster,
+        ba: laws::pick(chip.side.bus.balow, 0, 1),
+        aec: laws::pick(chip.side.bus.aeclow, 0, 1),
+        dma: u16::from(chip.side.sprites.dma),
+        rc: u16::from(chip.side.rows.rc),
+        vc: chip.side.rows.vc,
+        irq: laws::pick(chip.side.irq.line, 0, 1),
     }
 }
 
@@ -81,8 +75,7 @@ fn with_piece(chip: Chip, wave: Wave, out: &mut [u8]) -> Told
 {
     let values = record_of(chip);
     let n = vcd::piece(out, 0, wave, values);
-    let next = vcd::after(wave, values);
-    answer(0, chip, next, n)
+    answer(0, chip, vcd::after(wave, values), n)
 }
 
 // The number of the tick's refusal, and 13 after it.
@@ -116,6 +109,5 @@ pub fn tick(
     if n != 0 {
         return answer(n, chip, wave, 0);
     }
-    let next = t.chip;
-    with_piece(next, wave, out)
+    with_piece(t.chip, wave, out)
 }

@@ -1,18 +1,18 @@
 -- Who asks for the bus in the cycles of a line, in its three parts. Assumes nothing.
-use Prim.Native.Nat.{ℕ, zero, suc, ◌<◌, ◌≤◌, ◌+◌, ◌-◌}
-use mathlib.Core.Path.{◌≡◌, refl, ◌∙◌, sym, ap}
-use mathlib.Core.Bool.{Bool, true, false, ◌&&◌, ◌||◌, cond}
+use Prim.Native.Nat.{ℕ, ◌<◌, ◌≤◌, ◌+◌, ◌-◌}
+use mathlib.Core.Path.{◌≡◌, ◌∙◌, sym}
+use mathlib.Core.Bool.{Bool, false}
 use native.Mathlib.Omega.{arith}
 use native.Mathlib.Decide.{dec_lt}
-use lib.Dec.{eqb, leb, ltb}
+use lib.Dec.{leb}
 use lib.Bits.{and_zero_r}
 use borrow.Author.Tests.{lt-ltb, le-ltb, le-leb, lt-leb}
 use Rattle.laws.proofs.Below as Below
 use Rattle.laws.proofs.Choice.{and_false, and_true, or_false}
-use Rattle.schedule.specs.Kind.{Kind, the6569, the6567_r8, first_pointer, last_cycle}
-use Rattle.schedule.specs.Diagram.{happens, matrix_request}
+use Rattle.schedule.specs.Kind.{Kind, the6569, the6567_r8, first_pointer}
+use Rattle.schedule.specs.Diagram.{happens}
 use Rattle.schedule.specs.Requests.{mask_at}
-use Rattle.schedule.proofs.Places.{first_least, first_most}
+use Rattle.schedule.proofs.Places.{first_least}
 use Rattle.arbitration.specs.Bus.{sprite_asks}
 use Rattle.lines.specs.Bus.{Masks, mask_in, asks}
 

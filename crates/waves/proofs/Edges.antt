@@ -1,13 +1,12 @@
 -- The clock of a wave's last edge, and the count of a wave's cycles, by the bits of a word. Assumes nothing.
-use Prim.Native.Nat.{ℕ, zero, suc, ◌+◌, ◌-◌, ◌*◌, ◌/◌, ◌%◌, ◌^◌, ◌<◌, ◌≤◌}
+use Prim.Native.Nat.{ℕ, zero, suc, ◌+◌, ◌-◌, ◌/◌, ◌%◌, ◌<◌, ◌≤◌}
 use mathlib.Core.Path.{◌≡◌, refl, ◌∙◌, sym, ap}
-use mathlib.Core.Bool.{Bool, true, false, cond}
+use mathlib.Core.Bool.{Bool, cond}
 use native.Mathlib.Omega.{arith}
 use lib.Dec.{eqb}
 use lib.IntN.{ℤ}
 use borrow.Author.Tests.{ne_eqb}
 use lib.Count.{ones, ones_in, ones_step, count_leading_zeros, leading_le, leading_of_zero}
-use Rattle.laws.specs.Bits.{has_bit}
 use Rattle.arbitration.specs.Bus.{clock_on}
 use Rattle.waves.specs.Waves.{Wave, edge_of}
 use Rattle.waves.proofs.Words.{as_wave, later, low_bit}

@@ -1,13 +1,13 @@
 -- The bus of a line by the words of its first and its last cycles. Assumes nothing.
 use Prim.Native.Nat.{ℕ, zero, suc, ◌<◌, ◌≤◌, ◌+◌, ◌-◌, ◌*◌, ◌/◌, ◌^◌}
-use mathlib.Core.Path.{◌≡◌, refl, ◌∙◌, sym, ap, subst}
+use mathlib.Core.Path.{◌≡◌, refl, ◌∙◌, sym, ap}
 use mathlib.Core.Bool.{Bool, true, false, not, ◌&&◌, cond}
 use native.Mathlib.Omega.{arith}
 use native.Mathlib.Decide.{dec_lt}
 use lib.Dec.{eqb, ltb, leb}
 use lib.Bits.{bit_and, bit_xor}
 use lib.Count.{ones}
-use lib.IntN.{ℤ, pos, negsuc}
+use lib.IntN.{ℤ}
 use borrow.Author.Tests.{lt-ltb, le-ltb, ne_eqb}
 use Rattle.laws.specs.Bits.{has_bit}
 use Rattle.laws.proofs.Below as Below
@@ -383,3 +383,14 @@ module _ (k : Kind) (bad : Bool) (m : Masks) (b : Bus) where
       by : (j : ℕ) → j < 4 → Dec (54 + i - j < 55) → asks k bad (record { before = 0; first = m.after; after = m.after }) (54 + i - j) ≡ asks k bad m (54 + i - j)
       by j h (yes d) = matrix_asks k bad (record { before = 0; first = m.after; after = m.after }) (54 + i - j) (omega arith) (omega arith) ∙ sym (matrix_asks k bad m (54 + i - j) (omega arith) (omega arith))
       by j h (no d) = late_asks k bad (record { before = 0; first = m.after; after = m.after }) refl (54 + i - j) (omega arith) ∙ sym (late_asks k bad m e (54 + i - j) (omega arith))
+
+-- AEC's two words from the requests' words
+pub low_early_word : (k : Kind) (dma : ℕ) (aec : ℤ) {first run w : ℕ}
+    → Wave 10 (λ i. sprite_asks dma (mask_at k (suc i))) first → Wave 4 (λ i. waited aec (3 - i)) run → w ≡ four_of (first * 16 + run)
+    → Wave 11 (low_early k dma aec) w
+low_early_word k dma aec x y e = rw e (early_lows k false (record { before = dma; first = 0; after = 0 }) (aec≔ aec fresh) x y)
+
+pub low_late_word : (k : Kind) (bad : Bool) (dma : ℕ) {last run w : ℕ}
+    → Wave (last_cycle k - 54) (λ i. sprite_asks dma (mask_at k (55 + i))) last → run ≡ cond bad 15 0 → w ≡ four_of (last * 16 + run)
+    → Wave (last_cycle k - 53) (low_late k bad dma) w
+low_late_word k bad dma x e f = rw (f, e) (late_lows k bad (record { before = 0; first = dma; after = dma }) fresh refl x)

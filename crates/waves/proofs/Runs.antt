@@ -1,12 +1,15 @@
 -- Four requests and the AEC counter. Assumes nothing.
-use Prim.Native.Nat.{ℕ, zero, suc, ◌<◌, ◌≤◌, ◌+◌, ◌-◌, ◌^◌}
-use mathlib.Core.Path.{◌≡◌, refl, ◌∙◌, sym, ap}
+use Prim.Native.Nat.{ℕ, ◌<◌, ◌≤◌, ◌+◌, ◌-◌}
+use mathlib.Core.Path.{◌≡◌, ◌∙◌, sym, ap}
 use mathlib.Core.Bool.{Bool, true, false, true≢false}
 use native.Mathlib.Omega.{arith}
-use lib.Dec.{T, ltb}
+use lib.Dec.{T}
 use lib.IntN.{ℤ, pos, negsuc}
 use lib.Signed.{lt_z}
-use borrow.Author.Tests.{ltb-true, ltb-false, le-ltb}
+use mir.Syntax.{w8}
+use mir.Val.{SFits, to_z, of_z}
+use mir.Facts.{to_z-of_z}
+use borrow.Author.Tests.{ltb-true, le-ltb}
 use Rattle.laws.specs.Bits.{has_bit}
 use Rattle.laws.proofs.Below as Below
 use Rattle.lines.specs.Bus.{waited}
@@ -39,28 +42,33 @@ minus r l h = let e : r ≡ 15 = omega arith in rw e
 
 -- ---- the four requests that a counter remembers
 
-just : (z : ℤ) (n : ℕ) → lt_z z (pos n) ≡ false → lt_z z (pos (suc n)) ≡ true → z ≡ pos n
-just (pos a) n e f = let s : a ≡ n = omega (arith, ltb-false a n e, ltb-true a (suc n) f) in ap pos s
-just (negsuc a) n e f = absurd (true≢false e)
+-- a signed byte by its eight bits
+as_read : {z : ℤ} {n : ℕ} → SFits w8 z → of_z w8 z ≡ n → z ≡ to_z w8 n
+as_read h e = sym (to_z-of_z h) ∙ ap (to_z w8) e
 
 pub remembers_four : (z : ℤ) → lt_z z (pos 0) ≡ true → Wave 4 (λ i. waited z (3 - i)) 15
 unfolding waited has_bit
 remembers_four (negsuc n) e = record { bits = Below.same_test (has_bit 15) (λ i. true) 4 tt; small = omega arith }
 remembers_four (pos n) e = absurd (omega (arith, ltb-true n 0 e))
 
-pub remembers_three : (z : ℤ) → lt_z z (pos 0) ≡ false → lt_z z (pos 1) ≡ true → Wave 4 (λ i. waited z (3 - i)) 14
+pub remembers_three : (z : ℤ) → SFits w8 z → of_z w8 z ≡ 0 → Wave 4 (λ i. waited z (3 - i)) 14
 unfolding waited has_bit
-remembers_three z e f = rw (just z 0 e f) (record { bits = Below.same_test (has_bit 14) (λ i. waited (pos 0) (3 - i)) 4 tt; small = omega arith })
+remembers_three z h e = rw (as_read h e) (record { bits = Below.same_test (has_bit 14) (λ i. waited (pos 0) (3 - i)) 4 tt; small = omega arith })
 
-pub remembers_two : (z : ℤ) → lt_z z (pos 1) ≡ false → lt_z z (pos 2) ≡ true → Wave 4 (λ i. waited z (3 - i)) 12
+pub remembers_two : (z : ℤ) → SFits w8 z → of_z w8 z ≡ 1 → Wave 4 (λ i. waited z (3 - i)) 12
 unfolding waited has_bit
-remembers_two z e f = rw (just z 1 e f) (record { bits = Below.same_test (has_bit 12) (λ i. waited (pos 1) (3 - i)) 4 tt; small = omega arith })
+remembers_two z h e = rw (as_read h e) (record { bits = Below.same_test (has_bit 12) (λ i. waited (pos 1) (3 - i)) 4 tt; small = omega arith })
 
-pub remembers_one : (z : ℤ) → lt_z z (pos 2) ≡ false → lt_z z (pos 3) ≡ true → Wave 4 (λ i. waited z (3 - i)) 8
+pub remembers_one : (z : ℤ) → SFits w8 z → of_z w8 z ≡ 2 → Wave 4 (λ i. waited z (3 - i)) 8
 unfolding waited has_bit
-remembers_one z e f = rw (just z 2 e f) (record { bits = Below.same_test (has_bit 8) (λ i. waited (pos 2) (3 - i)) 4 tt; small = omega arith })
+remembers_one z h e = rw (as_read h e) (record { bits = Below.same_test (has_bit 8) (λ i. waited (pos 2) (3 - i)) 4 tt; small = omega arith })
 
-pub remembers_none : (z : ℤ) → lt_z z (pos 3) ≡ false → Wave 4 (λ i. waited z (3 - i)) 0
+pub remembers_none : (z : ℤ) → lt_z z (pos 0) ≡ false → (of_z w8 z ≡ 0 → ⊥) → (of_z w8 z ≡ 1 → ⊥) → (of_z w8 z ≡ 2 → ⊥) → Wave 4 (λ i. waited z (3 - i)) 0
 unfolding waited has_bit
-remembers_none (pos n) e = record { bits = λ i h. rw (le-ltb (n + (3 - i)) 3 (omega (arith, ltb-false n 3 e))) (Below.same_test (has_bit 0) (λ i. false) 4 tt i h); small = omega arith }
-remembers_none (negsuc n) e = absurd (true≢false e)
+remembers_none (pos n) e a b c =
+    let read : (m : ℕ) → n ≡ m → of_z w8 (pos n) ≡ of_z w8 (pos m) = λ m. ap (λ (k : ℕ). of_z w8 (pos k)) in
+    let x : n ≡ 0 → ⊥ = λ q. a (read 0 q) in
+    let y : n ≡ 1 → ⊥ = λ q. b (read 1 q) in
+    let w : n ≡ 2 → ⊥ = λ q. c (read 2 q) in
+    record { bits = λ i h. rw (le-ltb (n + (3 - i)) 3 (omega (arith, x, y, w))) (Below.same_test (has_bit 0) (λ i. false) 4 tt i h); small = omega arith }
+remembers_none (negsuc n) e a b c = absurd (true≢false e)

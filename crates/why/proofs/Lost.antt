@@ -14,8 +14,7 @@ use Rattle.timing.specs.Beam.{next_cycle, beam_turned}
 use Rattle.timing.proofs.Kept.{cycle_wraps, fresh_kind, fresh_cycle}
 use Rattle.arbitration.specs.Bus.{lost_after}
 use Rattle.arbitration.specs.Bus as Buses
-use Rattle.rows.specs.declared.Pending.{Pending}
-use Rattle.rows.specs.declared.Pending.TheVariants.{Nothing, At}
+use Rattle.std.specs.Prelude.{Option, None, Some}
 use Rattle.side.specs.Turn.{fresh_side, turned}
 use Rattle.chip.specs.declared.Chip.{Chip}
 use Rattle.chip.specs.declared.Answer.{Answer}
@@ -52,9 +51,9 @@ lost_is_a_fold xs c =
 abbrev SameBeam : Chip → Answer → Type 0
 SameBeam c a = a.chip.side.beam ≡ c.side.beam
 
-late_beam : (c : Chip) (byte : ℕ) (p : Pending) → (late_at c byte p).side.beam ≡ c.side.beam
-late_beam c byte Nothing = refl
-late_beam c byte (At p) = refl
+late_beam : (c : Chip) (byte : ℕ) (p : Option ℕ) → (late_at c byte p).side.beam ≡ c.side.beam
+late_beam c byte None = refl
+late_beam c byte (Some p) = refl
 
 only_ticks_move_the_beam : (x : Call) (c : Chip) → adds x c [] ≡ [] → SameBeam c (done x c)
 unfolding done adds register_written file_written expand_at compares_by control1_written control2_written control_stored controls_placed late_taken

@@ -16,8 +16,7 @@ use Rattle.sprites.specs.Sprites.{fetched}
 use Rattle.arbitration.specs.declared.Bus.{Bus}
 use Rattle.arbitration.specs.Bus.{down, aec_after, low, Counted, clocked, arbitrated, lost_after, counted}
 use Rattle.arbitration.proofs.Kept.{aec_kept}
-use Rattle.rows.specs.declared.Pending.{Pending}
-use Rattle.rows.specs.declared.Pending.TheVariants.{Nothing, At}
+use Rattle.std.specs.Prelude.{Option, None, Some}
 use Rattle.side.specs.Phases.{slot_moved}
 use Rattle.side.specs.Turn.{turned}
 use Rattle.chip.specs.declared.Chip.{Chip}
@@ -85,9 +84,9 @@ ticks_same h (suc n) c e =
 abbrev SameBus : Chip → Answer → Type 0
 SameBus c a = a.chip.side.bus ≡ c.side.bus
 
-late_bus : (c : Chip) (byte : ℕ) (p : Pending) → (late_at c byte p).side.bus ≡ c.side.bus
-late_bus c byte Nothing = refl
-late_bus c byte (At p) = refl
+late_bus : (c : Chip) (byte : ℕ) (p : Option ℕ) → (late_at c byte p).side.bus ≡ c.side.bus
+late_bus c byte None = refl
+late_bus c byte (Some p) = refl
 
 -- one that has no accepted tick in it
 pub only_ticks_touch_the_bus : (x : Call) (c : Chip) → adds x c [] ≡ [] → SameBus c (done x c)

@@ -3,4 +3,4 @@ use Rattle.clerk.proofs.begun.Goals as goal
 
 pub returns : goal.returns
 unfolding begun_of
-returns c = simp (c.on_page.ensures, c.begun.ensures)
+returns c = simp c.begun.ensures

@@ -1,6 +1,7 @@
+use mathlib.Core.Path.{refl}
 use Rattle.driver.specs.Driver.{store}
 use Rattle.clerk.proofs.Glue.{turned_by}
 use Rattle.clerk.proofs.turn.Goals as goal
 
 pub returns : goal.returns
-returns c = let all = turned_by (store c.args.ram.now c.args.rom.now c.args.colour.now) _ c.args.before _ _ c.args.found _ _ _ c.turn-made.ensures.0 c.on_page.ensures c.told-at.ensures.0 c.told-at.ensures.1 c.turn-made.ensures.1 in record { at_bound = all.0; value = all.1.0; written = all.1.1.0; colour_after = all.1.1.1 }
+returns c = let all = turned_by (store c.args.ram.now c.args.rom.now c.args.colour.now) _ c.args.before _ _ c.args.found _ _ _ c.turn-made.ensures.0 refl c.told-at.ensures.0 c.told-at.ensures.1 c.turn-made.ensures.1 in record { at_bound = all.0; value = all.1.0; written = all.1.1.0; colour_after = all.1.1.1 }

@@ -6,4 +6,4 @@ use Rattle.engine.proofs.row.Goals as goal
 
 pub returns : goal.returns
 unfolding rows_line base_of rc_of shows_of vc_after vmli_after rc_after
-returns c = simp (c.pick8-vmli.ensures, c.pick8-up.ensures, c.pick16-next.ensures, c.pick16-vc.ensures, c.pick8-rc.ensures, c.pick16-base.ensures, round40, round1, picks)
+returns c = simp (c.pick.ensures, c.pick-2.ensures, c.pick-3.ensures, c.pick-vc.ensures, c.pick-rc.ensures, c.pick-base.ensures, round40, round1, picks)

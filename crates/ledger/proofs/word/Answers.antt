@@ -1,29 +1,30 @@
 use native.Mathlib.Omega.{arith}
 use Rattle.line.specs.Text.{ascii}
 use Rattle.line.proofs.Join.{named_as}
-use Rattle.ledger.proofs.Words.{word1, word2, word3, word4, word5, word6}
+use Rattle.ledger.specs.Text.{word_of}
+use Rattle.ledger.proofs.Words.{word6}
 use Rattle.ledger.proofs.word.Goals as goal
 
-pub returns-then-reason-eq1 : goal.returns-then-reason-eq1
-unfolding ascii
-returns-then-reason-eq1 c = (omega (arith, c.text.ensures.0), named_as (word1 c.if-reason-eq1.true) c.text.ensures.1)
+pub returns-in-1 : goal.returns-in-1
+unfolding word_of ascii
+returns-in-1 c = (omega (arith, c.text.ensures.0), simp c.in-1.is c.text.ensures.1)
 
-pub returns-then-reason-eq2 : goal.returns-then-reason-eq2
-unfolding ascii
-returns-then-reason-eq2 c = (omega (arith, c.text-then-reason-eq2.ensures.0), named_as (word2 c.if-reason-eq1.false c.if-reason-eq2.true) c.text-then-reason-eq2.ensures.1)
+pub returns-in-2 : goal.returns-in-2
+unfolding word_of ascii
+returns-in-2 c = (omega (arith, c.text-in-2.ensures.0), simp c.in-2.is c.text-in-2.ensures.1)
 
-pub returns-then-reason-eq3 : goal.returns-then-reason-eq3
-unfolding ascii
-returns-then-reason-eq3 c = (omega (arith, c.text-then-reason-eq3.ensures.0), named_as (word3 c.if-reason-eq1.false c.if-reason-eq2.false c.if-reason-eq3.true) c.text-then-reason-eq3.ensures.1)
+pub returns-in-3 : goal.returns-in-3
+unfolding word_of ascii
+returns-in-3 c = (omega (arith, c.text-in-3.ensures.0), simp c.in-3.is c.text-in-3.ensures.1)
 
-pub returns-then-reason-eq4 : goal.returns-then-reason-eq4
-unfolding ascii
-returns-then-reason-eq4 c = (omega (arith, c.text-then-reason-eq4.ensures.0), named_as (word4 c.if-reason-eq1.false c.if-reason-eq2.false c.if-reason-eq3.false c.if-reason-eq4.true) c.text-then-reason-eq4.ensures.1)
+pub returns-in-4 : goal.returns-in-4
+unfolding word_of ascii
+returns-in-4 c = (omega (arith, c.text-in-4.ensures.0), simp c.in-4.is c.text-in-4.ensures.1)
 
-pub returns-then-reason-eq5 : goal.returns-then-reason-eq5
-unfolding ascii
-returns-then-reason-eq5 c = (omega (arith, c.text-then-reason-eq5.ensures.0), named_as (word5 c.if-reason-eq1.false c.if-reason-eq2.false c.if-reason-eq3.false c.if-reason-eq4.false c.if-reason-eq5.true) c.text-then-reason-eq5.ensures.1)
+pub returns-in-5 : goal.returns-in-5
+unfolding word_of ascii
+returns-in-5 c = (omega (arith, c.text-in-5.ensures.0), simp c.in-5.is c.text-in-5.ensures.1)
 
-pub returns : goal.returns
-unfolding ascii
-returns c = (omega (arith, c.text-2.ensures.0), named_as (word6 c.if-reason-eq1.false c.if-reason-eq2.false c.if-reason-eq3.false c.if-reason-eq4.false c.if-reason-eq5.false) c.text-2.ensures.1)
+pub returns-in_default : goal.returns-in_default
+unfolding word_of ascii
+returns-in_default c = (omega (arith, c.text-in_default.ensures.0), let r = c.in_default.in_default-own.rest in named_as (word6 r.0.0.0.0.1 r.0.0.0.1 r.0.0.1 r.0.1 r.1) c.text-in_default.ensures.1)

@@ -7,4 +7,4 @@ use Rattle.line.proofs.refused.Goals as goal
 pub returns : goal.returns
 unfolding refused_of
 returns c =
-    (omega (arith, c.begin_refused-a.ensures.0, c.put-b.ensures.0, c.put.ensures.0), on c.begin_refused-a.ensures.1 (on (named_as (ap (λ n. text_of n 32) (sym c.wide.ensures)) c.put-b.ensures.1) c.put.ensures.1))
+    (omega (arith, c.text-a.ensures.0, c.put-b.ensures.0, c.put.ensures.0), on c.text-a.ensures.1 (on (named_as (ap (λ n. text_of n 32) (sym c.from.ensures)) c.put-b.ensures.1) c.put.ensures.1))

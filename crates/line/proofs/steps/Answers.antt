@@ -6,4 +6,4 @@ use Rattle.line.proofs.steps.Goals as goal
 pub returns : goal.returns
 unfolding steps_of
 returns c =
-    (omega (arith, c.begin_steps-a.ensures.0, c.put.ensures.0), on c.begin_steps-a.ensures.1 c.put.ensures.1)
+    (omega (arith, c.text-a.ensures.0, c.put.ensures.0), on c.text-a.ensures.1 c.put.ensures.1)

@@ -10,8 +10,8 @@ pub returns-then-block_refusal-ne0 : goal.returns-then-block_refusal-ne0
 unfolding block_of block_place
 returns-then-block_refusal-ne0 c =
     let no = ne_eqb _ 0 (λ e. c.if-block_refusal-ne0.true (c.block_refusal.ensures ∙ e)) in record {
-      fact_1 = simp no;
-      fact_2 = simp no;
+      bytes = simp no;
+      place = simp no;
     }
 
 pub slice_bounds-result-end-then-in_rom : goal.slice_bounds-result-end-then-in_rom
@@ -22,8 +22,8 @@ unfolding block_of block_place
 returns-then-in_rom c =
     let ok = sym c.block_refusal.ensures ∙ c.if-block_refusal-ne0.false in
     let rom = rw c.wide-start.ensures at (sym c.in_rom.ensures ∙ c.if-in_rom.true) in record {
-      fact_1 = simp (c.wide-start.ensures, ok, rom, in_page _ _ rom, add-sub_cancel_left);
-      fact_2 = simp (c.wide-start.ensures, ok, rom, in_page _ _ rom);
+      bytes = simp (c.wide-start.ensures, ok, rom, in_page _ _ rom, add-sub_cancel_left);
+      place = simp (c.wide-start.ensures, ok, rom, in_page _ _ rom);
     }
 
 pub slice_bounds-result-end-2 : goal.slice_bounds-result-end-2
@@ -34,6 +34,6 @@ unfolding block_of block_place
 returns c =
     let ok = sym c.block_refusal.ensures ∙ c.if-block_refusal-ne0.false in
     let ram = rw c.wide-start.ensures at (sym c.in_rom.ensures ∙ c.if-in_rom.false) in record {
-      fact_1 = simp (c.wide-start.ensures, ok, ram, add-sub_cancel_left);
-      fact_2 = simp (c.wide-start.ensures, ok, ram);
+      bytes = simp (c.wide-start.ensures, ok, ram, add-sub_cancel_left);
+      place = simp (c.wide-start.ensures, ok, ram);
     }

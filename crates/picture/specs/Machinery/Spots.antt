@@ -1,8 +1,11 @@
 -- Where the code's steps of a cycle read, and what they note of it. `proofs/Told.antt` has the tick's reads from that.
-use Rattle.std.specs.Prelude.{ℕ, Bool, cond, List, eqb, ℤ}
-use Rattle.schedule.specs.Diagram.{happens, refresh}
+use Rattle.std.specs.Prelude.{ℕ, Bool, false, cond, List, eqb, ℤ}
+use Rattle.laws.specs.Pick.{pick}
+use Rattle.schedule.specs.Diagram.{happens, refresh, graphics_cleared}
 use Rattle.schedule.specs.Machinery.Reads.{reasons, lit_reasons, pointer_reasons, data_reasons, gap_reasons}
 use Rattle.raster.specs.Refresh.{refresh_address}
+use Rattle.memory.specs.declared.Found.{Found}
+use Rattle.access.specs.declared.Latch.{Latch}
 use Rattle.access.specs.declared.Spots.{Spots}
 use Rattle.access.specs.Machinery.Noted.{noted_of}
 use Rattle.access.specs.Matrix.{fill_spot}
@@ -18,6 +21,18 @@ draw_spots m o clock p mode ptrs ram rom bank =
     record {
       first = (graphics_of (character_of m o clock p).ch o clock p mode ptrs ram rom bank).address;
       second = fill_spot o.fills o.column ptrs ram rom bank;
+    }
+
+-- the graphics byte of a cycle without a graphics access, which reads nowhere
+abbrev pub dark_byte : Orders → Pen → Found
+dark_byte o p = record { byte = pick (happens graphics_cleared o.cycle) 0 p.gfx; address = 0 }
+
+-- the end of a cycle, whose latch and graphics byte are there
+abbrev pub finished : Pen → Orders → ℕ → ℕ → Latch → Found → List ℕ → List ℕ → ℕ → Drawn
+finished p o mode ptrs latch found ram rom bank =
+    record {
+      pen = record { ch = latch.ch; carry = latch.carry; gfx = found.byte; mode = mode; old = pick p.changing mode p.old; changing = false; forced = p.forced };
+      spots = record { first = found.address; second = fill_spot o.fills o.column ptrs ram rom bank };
     }
 
 unfoldable pub drawn_by : List ℕ → Orders → ℤ → Pen → ℕ → ℕ → List ℕ → List ℕ → ℕ → Drawn

@@ -9,4 +9,4 @@ returns-then-width-eq0 t c = (omega arith, named_as (no_bits _ _ _ c.if-width-eq
 
 pub returns : goal.returns
 returns t c =
-    (omega (arith, c.bits-a.ensures.0, c.byte.ensures.0, some_bits _ c.if-width-eq0.false), named_as (more_bits _ _ _ c.if-width-eq0.false c.digit-d.ensures) (on c.bits-a.ensures.1 c.byte.ensures.1))
+    (omega (arith, c.bits-a.ensures.0, c.byte.ensures.0, some_bits _ c.if-width-eq0.false), named_as (more_bits _ _ _ c.if-width-eq0.false c.digit.ensures) (on c.bits-a.ensures.1 c.byte.ensures.1))

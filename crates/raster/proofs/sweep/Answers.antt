@@ -10,8 +10,8 @@ returns c =
     c.raster_begun-line.ensures
     c.begin-begun.ensures
     c.frame_ends.ensures
-    c.pick16-shown.ensures
+    c.pick-shown.ensures
     c.latched-latched.ensures
-    c.end-ended.ensures
+    c.end.ensures
     c.match_raises-equal.ensures
-    c.raise-told.ensures
+    c.raise.ensures

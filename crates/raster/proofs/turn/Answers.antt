@@ -16,4 +16,4 @@ returns-then-later c =
     (later c.args.cycle c.requires (sym c.later-later.ensures ∙ c.if-later.true))))
 
 pub returns : goal.returns
-returns c = rw (c.pick8.ensures, c.sweep-swept.ensures)
+returns c = rw (c.pick.ensures, c.sweep-swept.ensures)

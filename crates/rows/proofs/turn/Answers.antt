@@ -4,4 +4,4 @@ use Rattle.rows.proofs.turn.Goals as goal
 pub returns : goal.returns
 returns c =
     rows_glue c.args.cycle c.args.bad c.args.rising c.args.wraps c.args.rows
-    c.vc_load-loads.ensures c.pick16-vc.ensures c.pick8-vmli.ensures c.pick8-rc.ensures c.access_chosen-chosen.ensures c.access_ends-over.ensures c.access_after-access.ensures c.graphics_access-graphics.ensures c.character_access.ensures c.row_ends-ends.ensures c.display_after-shows.ensures c.pick16-based.ensures c.pick16-base.ensures c.vc_after-next_vc.ensures c.vmli_after-next_vmli.ensures c.rc_after-next_rc.ensures
+    c.vc_load-loads.ensures c.pick-vc.ensures c.pick-vmli.ensures c.pick-rc.ensures c.access_chosen-chosen.ensures c.access_ends-over.ensures c.access_after-access.ensures c.graphics_access-graphics.ensures c.character_access.ensures c.row_ends-ends.ensures c.display_after-shows.ensures c.pick-based.ensures c.pick-base.ensures c.vc_after-next_vc.ensures c.vmli_after-next_vmli.ensures c.rc_after-next_rc.ensures

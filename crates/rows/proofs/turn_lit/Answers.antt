@@ -6,4 +6,4 @@ pub returns : goal.returns
 returns c =
     rows_lit c.args.cycle c.args.bad c.args.rising c.args.rows
     (lit c.args.cycle c.requires) c.requires
-    c.access_ends-over.ensures c.vc_after-next_vc.ensures c.vmli_after-next_vmli.ensures
+    c.access_ends-over.ensures c.vc_after.ensures c.vmli_after.ensures

@@ -1,16 +1,7 @@
-use mathlib.Core.Path.{sym, ◌∙◌}
-use borrow.Author.Tests.{eqb-true}
-use Rattle.laws.proofs.Choice.{left}
+use borrow.Author.Tests.{ne_eqb}
 use Rattle.scene.specs.Decode.{decoded_newest}
 use Rattle.scene.proofs.decode_newest.Goals as goal
 
-pub decode_fields-requires : goal.decode_fields-requires
-decode_fields-requires c = eqb-true _ _ (left _ _ (sym c.is_version-newest.ensures ∙ c.if-newest.true))
-
-pub returns-then-newest : goal.returns-then-newest
+pub returns-in_default : goal.returns-in_default
 unfolding decoded_newest
-returns-then-newest c = simp (c.decode_fields.ensures, sym c.is_version-newest.ensures ∙ c.if-newest.true)
-
-pub returns : goal.returns
-unfolding decoded_newest
-returns c = simp (c.no_scene.ensures, sym c.is_version-newest.ensures ∙ c.if-newest.false)
+returns-in_default c = simp (ne_eqb _ 311 c.in_default.ensures.1)

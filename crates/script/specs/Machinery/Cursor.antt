@@ -1,18 +1,15 @@
 -- A run file one record at a time: what it says at a cursor, and the cursor past it. No rules: how the reader goes through what `File` says.
-use Rattle.std.specs.Prelude.{ℕ, zero, suc, ◌+◌, ◌-◌, Bool, true, false, cond, List, [], ◌∷◌, eqb, ltb, drop}
-use Rattle.script.specs.declared.Read.{Read}
-use Rattle.script.specs.declared.Read.TheVariants as read
-use Rattle.script.specs.declared.Count.{Count}
-use Rattle.script.specs.declared.Count.TheVariants as count
-use Rattle.script.specs.declared.Change.{Change}
-use Rattle.script.specs.declared.Change.TheVariants as change
+use Rattle.std.specs.Prelude.{ℕ, zero, suc, ◌+◌, ◌-◌, Bool, true, false, cond, List, [], ◌∷◌, eqb, ltb, drop, Result, Ok, Err}
+use Rattle.script.specs.declared.Step.{Step}
+use Rattle.script.specs.declared.Fault.{Fault}
+use Rattle.script.specs.declared.Changed.{Changed}
 use Rattle.script.specs.declared.Part.{Part}
 use Rattle.script.specs.declared.Part.TheVariants as part
 use Rattle.script.specs.declared.Item.{Item}
 use Rattle.script.specs.declared.Item.TheVariants as item
 use Rattle.script.specs.declared.Cursor.{Cursor}
 use Rattle.script.specs.declared.Found.{Found}
-use Rattle.script.specs.Step.{step_of}
+use Rattle.script.specs.Step.{fault_number, step_of}
 use Rattle.script.specs.File.{size_of, count_of, change_of, end_of}
 
 -- a record was read: the cursor goes past its bytes
@@ -23,17 +20,20 @@ on c bytes next left found = record { item = found; cursor = record { at = c.at 
 abbrev pub stays : Cursor → Item → Found
 stays c found = record { item = found; cursor = c }
 
-abbrev pub count_from : Cursor → (ℕ → Item) → Part → Count → Found
-count_from c says next (count.Of n) = on c 2 next n (says n)
-count_from c says next (count.Refused number) = stays c (item.Refused number)
+abbrev pub refused : Cursor → Fault → Found
+refused c fault = stays c (item.Refused (fault_number fault))
 
-abbrev pub change_from : Cursor → Part → Change → Found
-change_from c memory (change.Set address value) = on c 3 memory (c.left - 1) (item.Change memory address value)
-change_from c memory (change.Refused number) = stays c (item.Refused number)
+abbrev pub count_from : Cursor → (ℕ → Item) → Part → Result ℕ Fault → Found
+count_from c says next (Ok n) = on c 2 next n (says n)
+count_from c says next (Err fault) = refused c fault
 
-abbrev pub step_from : Cursor → Read → Found
-step_from c (read.Got step) = on c 5 part.Steps (c.left - 1) (item.Do step)
-step_from c (read.Refused number) = stays c (item.Refused number)
+abbrev pub change_from : Cursor → Part → Result Changed Fault → Found
+change_from c memory (Ok change) = on c 3 memory (c.left - 1) (item.Change memory change.address change.value)
+change_from c memory (Err fault) = refused c fault
+
+abbrev pub step_from : Cursor → Result Step Fault → Found
+step_from c (Ok step) = on c 5 part.Steps (c.left - 1) (item.Do step)
+step_from c (Err fault) = refused c fault
 
 unfoldable pub changes_begun : List ℕ → Cursor → Part → Found
 changes_begun s c memory = count_from c (item.Changes memory) memory (count_of (size_of memory) (drop c.at s))

@@ -1,13 +1,8 @@
-use Prim.Native.Nat.{◌-◌}
-use Rattle.memory.specs.Lent.{host}
-use Rattle.engine.specs.World.{world}
+use Rattle.memory.specs.Lent.{seen}
+use Rattle.engine.specs.World.{world_in}
 use Rattle.sequencer.proofs.Lined.{Lining}
 use Rattle.sequencer.proofs.line_run.Given as goal
 
 abbrev pub invariant-loop-done : goal.invariant-loop-done
 invariant-loop-done l =
-    Lining (host l.ram l.rom l.colour l.bank) l.regs (world l.initial.now l.initial.matrix l.initial.pointers l.initial.bytes l.initial.words) l.n (world l.now l.matrix l.pointers l.bytes l.words) l.done
-
-abbrev pub decreases-loop-done : goal.decreases-loop-done
-decreases-loop-done l =
-    l.n - l.done
+    Lining (seen l.host) l.regs (world_in l.initial.now l.initial.arrays) l.n (world_in l.now l.arrays) l.done

@@ -1,9 +1,9 @@
 use mathlib.Core.Bool.{Bool}
 use Prim.Native.Nat.{ℕ, ◌-◌}
-use Rattle.memory.specs.Lent.{host}
+use Rattle.memory.specs.Lent.{seen}
 use Rattle.access.specs.Machinery.Noted.{reads_in}
 use Rattle.schedule.specs.Machinery.Stretches.{before_graphics}
-use Rattle.engine.specs.World.{world}
+use Rattle.engine.specs.World.{world_in}
 use Rattle.sequencer.proofs.Staged.{Parting}
 use Rattle.sequencer.proofs.lit_run.Given as goal
 
@@ -12,7 +12,7 @@ goes c = before_graphics c
 
 abbrev pub invariant-loop-i : goal.invariant-loop-i
 invariant-loop-i l =
-    Parting (host l.ram l.rom l.colour l.bank) l.regs goes (world l.initial.now l.initial.matrix l.initial.pointers l.initial.bytes l.initial.words) l.n (world l.now l.matrix l.pointers l.bytes l.words) l.i (reads_in l.noted)
+    Parting (seen l.host) l.regs goes (world_in l.initial.now l.initial.arrays) l.n (world_in l.now l.arrays) l.i (reads_in l.noted)
 
 abbrev pub decreases-loop-i : goal.decreases-loop-i
 decreases-loop-i l =

@@ -1,4 +1,3 @@
-use native.Mathlib.Omega.{arith}
 use Rattle.memory.specs.Lent.{host}
 use Rattle.sequencer.proofs.Staged.{beyond, refused_before, after_ticks}
 use Rattle.sequencer.proofs.long_run.Goals as goal
@@ -8,9 +7,6 @@ returns-then-begun-ne0 c =
     let h = host c.args.ram.now c.args.rom.now c.args.colour.now c.args.bank in
     let some = beyond _ c.args.n c.if-first-n.false in
     refused_before h c.args.chip _ c.args.n some c.tested-begun.ensures c.if-begun-ne0.true
-
-pub overflow_sub-n : goal.overflow_sub-n
-overflow_sub-n c = omega (arith, (beyond c.to_end-first.result c.args.n c.if-first-n.false).1)
 
 pub returns : goal.returns
 returns c =

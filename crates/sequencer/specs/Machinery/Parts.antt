@@ -1,7 +1,6 @@
 -- Ticks are worked in parts: the cycles of a line with a graphics access, and those without one.
-use Rattle.std.specs.Prelude.{ℕ, ◌+◌, ◌*◌, ◌<◌, ◌≤◌, ◌≡◌, Bool, true, cond, eqb, ℤ, pos, negsuc, length}
+use Rattle.std.specs.Prelude.{ℕ, ◌+◌, ◌*◌, ◌<◌, ◌≤◌, ◌≡◌, Bool, true, cond, eqb, ℤ, pos, negsuc}
 use Rattle.laws.specs.Clock.{last_clock, InRange, CanTick}
-use Rattle.memory.specs.Memory.{Lent}
 use Rattle.memory.specs.Lent.{Host, lent_refusal}
 use Rattle.registers.specs.declared.Registers.{Registers}
 use Rattle.access.specs.declared.Reads.{Reads}
@@ -12,25 +11,15 @@ use Rattle.chip.specs.Accept.{accepted, state_refusal}
 use Rattle.world.specs.World.{World, chip_of}
 use Rattle.sequencer.specs.Tick.{ticks_from}
 
--- what a step of a run may lean on: the lent lengths, the arrays' lengths, clocks whose difference fits, and a count that can go on
-pub record Ready (h : Host) (w : World) : Type 0 where
-  pub lent : Lent h.ram h.rom
-  pub colour : length h.colour ≡ 1024
-  pub forty : length w.matrix ≡ 40
-  pub eight : length w.pointers ≡ 8
-  pub threes : length w.bytes ≡ 24
-  pub eight_words : length w.words ≡ 8
+-- what a step of a run may lean on: clocks whose difference fits, and a count that can go on
+pub record Ready (w : World) : Type 0 where
   pub clock : CanTick w.side.bus.clock
   pub forced : InRange w.pen.forced
   pub lost : w.side.bus.lost < 256
 
--- what a run holds from tick to tick: nothing lent is refused, the arrays keep their lengths, the state is accepted
+-- what a run holds from tick to tick: nothing lent is refused, the state is accepted
 pub record Held (h : Host) (g : Registers) (w : World) : Type 0 where
   pub free : lent_refusal h ≡ 0
-  pub forty : length w.matrix ≡ 40
-  pub eight : length w.pointers ≡ 8
-  pub threes : length w.bytes ≡ 24
-  pub eight_words : length w.words ≡ 8
   pub fine : accepted (chip_of g w) ≡ true
 
 -- a run's answer, put together

@@ -6,7 +6,7 @@ use Rattle.side.proofs.asked_lit.Goals as goal
 
 pub returns-then-early : goal.returns-then-early
 returns-then-early c =
-    matrix_alone c.args.ba c.args.dma _ (no_request (kind_of c.args.kind) c.args.cycle c.requires (sym c.early-early.ensures ∙ c.if-early.true))
+    matrix_alone c.args.ba c.args.dma _ (no_request (kind_of c.args.kind) c.args.cycle c.requires (sym c.early.ensures ∙ c.if-early.true))
 
 pub returns : goal.returns
 returns c = rw (← c.mask.ensures) c.request.ensures

@@ -4,8 +4,8 @@ use Rattle.side.proofs.Parts.{border_between}
 use Rattle.schedule.specs.Kind.{kind_of}
 use Rattle.side.proofs.border_dark.Goals as goal
 
-pub returns-then-still : goal.returns-then-still
-returns-then-still c =
-    border_between (kind_of c.args.kind) c.args.cycle c.args.raster c.args.den c.args.csel c.args.b
-    (dark c.args.cycle c.requires.fact_1 c.requires.fact_2)
-    (between (kind_of c.args.kind) c.args.cycle c.requires.fact_1 (sym c.between-still.ensures ∙ c.if-still.true))
+pub returns-then-between : goal.returns-then-between
+returns-then-between c =
+    border_between (kind_of c.args.kind) c.args.cycle c.args.raster c.args.g.den c.args.g.csel c.args.b
+    (dark c.args.cycle c.requires.small c.requires.dark)
+    (between (kind_of c.args.kind) c.args.cycle c.requires.small (sym c.between.ensures ∙ c.if-between.true))

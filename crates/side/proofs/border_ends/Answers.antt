@@ -6,4 +6,4 @@ use Rattle.side.proofs.border_ends.Goals as goal
 pub returns : goal.returns
 returns c =
     rw (c.border_end.ensures, c.border_right40-late.ensures, c.border_right38-early.ensures, c.border_begin-begun.ensures)
-    (border_ends (kind_of c.args.kind) c.args.cycle c.args.raster c.args.den c.args.csel c.args.b (dark c.args.cycle c.requires.fact_1 c.requires.fact_2))
+    (border_ends (kind_of c.args.kind) c.args.cycle c.args.raster c.args.g.den c.args.g.csel c.args.b (dark c.args.cycle c.requires.small c.requires.dark))

@@ -6,4 +6,4 @@ use Rattle.side.proofs.sprites_ends.Goals as goal
 pub returns : goal.returns
 returns c =
     rw (c.sprites_load.ensures, c.sprites_second-second.ensures, c.sprites_first-first.ensures)
-    (sprites_ends (kind_of c.args.kind) c.args.cycle c.args.raster c.args.my c.args.enable c.args.yexp c.args.s (dark c.args.cycle c.requires.fact_1 c.requires.fact_2))
+    (sprites_ends (kind_of c.args.kind) c.args.cycle c.args.raster c.args.g.my c.args.g.enable c.args.g.yexp c.args.s (dark c.args.cycle c.requires.small c.requires.dark))

@@ -1,14 +1,12 @@
-use Prim.Native.Nat.{◌-◌}
 use mathlib.Core.Path.{sym, ◌∙◌}
-use native.Mathlib.Omega.{arith}
 use Rattle.spelling.proofs.Folds.{digit_next, digits_over}
 use Rattle.spelling.proofs.digits_of.Goals as goal
 
-pub loop-i-init : goal.loop-i-init
-loop-i-init c = (omega arith, simp c.none-d.ensures)
+pub loop-b-init : goal.loop-b-init
+loop-b-init c = simp c.none-d.ensures
 
-pub loop-i-preserved : goal.loop-i-preserved
-loop-i-preserved c = (omega arith, rw c.digit-d.ensures (c.loop-i.invariant.1 ∙ digit_next _ _ _ c.loop-i-test.true))
+pub loop-b-preserved : goal.loop-b-preserved
+loop-b-preserved c = rw c.digit-d.ensures (c.loop-b.invariant ∙ digit_next _ _ _ c.loop-b-test.true)
 
 pub returns : goal.returns
-returns c = sym (c.loop-i.invariant.1 ∙ digits_over _ _ _ c.loop-i-test.false)
+returns c = sym (c.loop-b.invariant ∙ digits_over _ _ _ c.loop-b-test.false)

@@ -1,20 +1,24 @@
-use Prim.Native.Nat.{◌-◌}
-use mathlib.Core.Path.{refl, sym, ◌∙◌}
-use native.Mathlib.Omega.{arith}
-use Rattle.spelling.proofs.Alike.{short, other, alike, named_out}
+use mathlib.Core.Path.{sym, ◌∙◌, ap}
+use mathlib.Core.List.{[]}
+use Rattle.std.proofs.lemmas.Slice.Zip.{Zip-more, either_empty_from_Zip}
+use Rattle.grammar.specs.Words.{Word, same, name_of}
+use Rattle.spelling.proofs.Alike.{short, other, alike, fewer, left, named_out}
 use Rattle.spelling.proofs.named.Goals as goal
 
-pub loop-i-init : goal.loop-i-init
-loop-i-init c = (omega arith, refl)
-
-pub returns-then-word-i : goal.returns-then-word-i
-returns-then-word-i c = sym (c.loop-i.invariant.1 ∙ short _ _ _ c.loop-i-test.true c.if-word-i.true)
+pub returns-then-word-name : goal.returns-then-word-name
+returns-then-word-name c = sym (short _ _ c.if-word-name.true)
 
 pub returns-then-differs : goal.returns-then-differs
-returns-then-differs c = sym (c.loop-i.invariant.1 ∙ other _ _ _ c.loop-i-test.true c.if-word-i.false _ c.differs.ensures c.if-differs.true)
+returns-then-differs c =
+    let p = Zip-more c.loop-b.b-iterator c.next.new.self _ _ c.in-Some.is c.next.ensures.steps in
+    sym (c.loop-b.invariant.1 ∙ other _ _ _ _ _ _ p.0 p.1 _ c.differs.ensures c.if-differs.true)
 
-pub loop-i-preserved : goal.loop-i-preserved
-loop-i-preserved c = (omega arith, c.loop-i.invariant.1 ∙ alike _ _ _ c.loop-i-test.true c.if-word-i.false _ c.differs.ensures c.if-differs.false)
+pub loop-b-preserved : goal.loop-b-preserved
+loop-b-preserved c =
+    let p = Zip-more c.loop-b.b-iterator c.next.new.self _ _ c.in-Some.is c.next.ensures.steps in
+    (fewer _ _ _ _ _ _ p.0 p.1 c.loop-b.invariant.0, c.loop-b.invariant.1 ∙ alike _ _ _ _ _ _ p.0 p.1 _ c.differs.ensures c.if-differs.false, c.loop-b.invariant.2 ∙ left _ _ _ _ _ _ p.0 p.1)
 
 pub returns : goal.returns
-returns c = c.ends.ensures ∙ sym (c.loop-i.invariant.1 ∙ named_out _ _ _ c.loop-i-test.false)
+returns c =
+    let spent = either_empty_from_Zip c.loop-b.b-iterator c.next.new.self _ c.in-None.is c.next.ensures.steps in
+    c.ends.ensures ∙ ap (λ (w : Word). same (name_of w) []) c.loop-b.invariant.2 ∙ sym (c.loop-b.invariant.1 ∙ named_out _ _ c.loop-b.invariant.0 spent)

@@ -4,4 +4,4 @@ use Rattle.tape.proofs.begun.Goals as goal
 pub returns : goal.returns
 unfolding begun_of
 returns c =
-    simp (c.on_tape.ensures, c.fresh.ensures, c.begun.ensures)
+    simp (c.fresh.ensures, c.begun.ensures)

@@ -7,4 +7,4 @@ use Rattle.tape.proofs.tick.Goals as goal
 
 pub returns : goal.returns
 returns c =
-    (omega (arith, c.piece-end.ensures.0, piece_at_most_88 c.args.wave c.record_of-values.result), c.after-next.ensures ∙ ap (wave_after _) c.record_of-values.ensures, named_as (ap (piece_of _) (sym c.record_of-values.ensures)) (record { place = c.piece-end.ensures.0; text = c.piece-end.ensures.1 }))
+    (omega (arith, c.piece-end.ensures.0, piece_at_most_88 c.args.wave c.record_of-values.result), c.after.ensures ∙ ap (wave_after _) c.record_of-values.ensures, named_as (ap (piece_of _) (sym c.record_of-values.ensures)) (record { place = c.piece-end.ensures.0; text = c.piece-end.ensures.1 }))

@@ -8,5 +8,5 @@ use Rattle.vcd.proofs.refused.Goals as goal
 pub returns : goal.returns
 unfolding refusal_text ascii
 returns c =
-    let number = ap (λ n. text_of n 32) (sym c.wide.ensures) in
+    let number = ap (λ n. text_of n 32) (sym c.from.ensures) in
     apart (on c.text-a.ensures.1 (on (named_as number c.put-b.ensures.1) (on c.put-c.ensures.1 c.text.ensures.1)))

@@ -1,7 +1,9 @@
+use mathlib.Core.Path.{ap, sym}
 use native.Mathlib.Omega.{arith}
-use Rattle.line.proofs.Join.{on}
+use Rattle.line.proofs.Join.{on, named_as}
+use Rattle.vcd.specs.Text.{digits_of}
 use Rattle.vcd.proofs.vector.Goals as goal
 
 pub returns : goal.returns
 returns c =
-    (omega (arith, c.byte-a.ensures.0, c.binary-b.ensures.0, c.byte-c.ensures.0, c.name.ensures.0), on c.byte-a.ensures.1 (on c.binary-b.ensures.1 (on c.byte-c.ensures.1 c.name.ensures.1)))
+    (omega (arith, c.byte-a.ensures.0, c.digits-b.ensures.0, c.text.ensures.0), on c.byte-a.ensures.1 (on (named_as (ap (digits_of 2 _) (sym c.from.ensures)) c.digits-b.ensures.1) c.text.ensures.1))

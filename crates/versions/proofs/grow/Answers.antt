@@ -12,4 +12,4 @@ shape_of-out c = simp length-set (c.put-2.ensures.size ∙ c.put.ensures.size)
 pub returns : goal.returns
 returns c =
     let front = put_as c.args.bytes.now (length c.args.bytes.now) c.put.ensures refl (omega arith) in
-    ap (λ (l : List ℕ). set l 3 c.args.version) (put_whole c.requires.fact_2 (put_both front c.put-2.ensures))
+    ap (λ (l : List ℕ). set l 3 c.args.version) (put_whole c.requires.size (put_both front c.put-2.ensures))

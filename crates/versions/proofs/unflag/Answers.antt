@@ -1,36 +1,27 @@
-use mathlib.Core.Path.{refl, ap}
+use mathlib.Core.Path.{◌≡◌, refl, ap, ◌∙◌}
+use mathlib.Core.List.{List}
+use Prim.Native.Nat.{ℕ, ◌+◌, ◌<◌}
+use native.Mathlib.Numerals.{add-one}
 use native.Mathlib.Omega.{arith}
-use lib.ListN.{length-set}
-use Rattle.versions.specs.Versions.{unflagged}
+use lib.ListN.{length, get_or, set, drop, length-set}
+use lib.Seq.{drop-cons}
+use Rattle.versions.specs.Versions.{cleared, unflagged}
 use Rattle.versions.proofs.Parts.{put_as, put_whole}
-use borrow.Author.Rules.{rules}
 use Rattle.versions.proofs.unflag.Goals as goal
 
-pub bounds-out-79 : goal.bounds-out-79
-bounds-out-79 c = simp length-set (search rules)
+-- the next place is cleared
+one_less : (ks s : List ℕ) (i : ℕ) → i < length ks → cleared (drop (i + 1) ks) (set s (get_or ks i 0) 0) ≡ cleared (drop i ks) s
+one_less ks s i h = rw (add-one, drop-cons ks i 0 h) refl
 
-pub bounds-out-91 : goal.bounds-out-91
-bounds-out-91 c = simp length-set (search rules)
-
-pub bounds-out-103 : goal.bounds-out-103
-bounds-out-103 c = simp length-set (search rules)
-
-pub bounds-out-115 : goal.bounds-out-115
-bounds-out-115 c = simp length-set (search rules)
-
-pub bounds-out-127 : goal.bounds-out-127
-bounds-out-127 c = simp length-set (search rules)
-
-pub bounds-out-139 : goal.bounds-out-139
-bounds-out-139 c = simp length-set (search rules)
-
-pub bounds-out-151 : goal.bounds-out-151
-bounds-out-151 c = simp length-set (search rules)
-
-pub bounds-out-163 : goal.bounds-out-163
-bounds-out-163 c = simp length-set (search rules)
+pub loop-at-preserved : goal.loop-at-preserved
+loop-at-preserved c = record {
+  left = one_less _ c.loop-at.out c.loop-at.at-index (omega arith) ∙ c.loop-at.invariant.left;
+  size = simp length-set c.loop-at.invariant.size;
+}
 
 pub returns : goal.returns
 unfolding unflagged
 returns c =
-    ap unflagged (put_whole c.requires.fact_2 (put_as c.args.bytes.now 309 c.put.ensures refl (omega (arith, c.requires.fact_1))))
+    let all : c.loop-at.at-index ≡ 8 = omega arith in
+    rw all at c.loop-at.invariant.left
+    ∙ ap unflagged (put_whole (omega arith) (put_as c.args.bytes.now 309 c.put.ensures refl (omega arith)))

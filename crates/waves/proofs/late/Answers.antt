@@ -1,11 +1,7 @@
-use native.Mathlib.Omega.{arith}
 use borrow.Author.Tests.{ne_eqb}
 use Rattle.schedule.specs.Kind.{kind_of}
-use Rattle.waves.proofs.Cuts.{late_6569, late_6567, some}
+use Rattle.waves.proofs.Cuts.{late_6569, late_6567}
 use Rattle.waves.proofs.late.Goals as goal
-
-pub overflow_mul-result : goal.overflow_mul-result
-overflow_mul-result c = record { fits = omega (arith, some c.args.dma c.places-all.ensures) }
 
 pub returns-then-kind-eq-KIND_6567R8 : goal.returns-then-kind-eq-KIND_6567R8
 unfolding kind_of

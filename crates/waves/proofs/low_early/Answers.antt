@@ -1,11 +1,13 @@
-use mathlib.Core.Bool.{false}
+use Prim.Native.Nat.{◌-◌}
+use mathlib.Core.Path.{subst}
+use lib.IntN.{ℤ}
 use mir.Facts.{to_z-of_z}
-use Rattle.schedule.specs.Kind.{kind_of}
-use Rattle.arbitration.specs.Bus.{fresh}
-use Rattle.arbitration.specs.Set.{aec≔}
-use Rattle.waves.proofs.Line.{early_lows}
+use Rattle.lines.specs.Bus.{waited}
+use Rattle.waves.specs.Waves.{Wave}
+use Rattle.waves.proofs.Line.{low_early_word}
 use Rattle.waves.proofs.low_early.Goals as goal
 
 pub returns : goal.returns
 returns c =
-    rw c.four.ensures (early_lows (kind_of c.args.kind) false (record { before = c.args.dma; first = 0; after = 0 }) (aec≔ c.args.aec fresh) c.early-asked.ensures (rw (to_z-of_z c.ranges.aec) at c.run_before-run.ensures))
+    let Run : ℤ → Type 0 = λ z. Wave 4 (λ i. waited z (3 - i)) c.run_before-run.result in
+    low_early_word _ _ _ c.early-asked.ensures (subst Run (to_z-of_z c.ranges.aec) c.run_before-run.ensures) c.four.ensures

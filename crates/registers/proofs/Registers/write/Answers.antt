@@ -25,14 +25,6 @@ other : (reg : ℕ) → 0x10 ≤ reg → reg < 0x27 → None (ones listed) reg �
 unfolding latch
 other reg l h none = eqb→eq (latch reg) 0x3F (rest_within (λ k. eqb (latch k) 0x3F) (ones listed) 0x10 23 tt reg l h none)
 
-pub returns-then-reg-eq0 : goal.returns-then-reg-eq0
-unfolding written latch
-returns-then-reg-eq0 c = simp (lt-ltb _ _ c.if-reg-lt16.true, c.if-reg-eq0.true)
-
-pub returns-else-reg-eq0 : goal.returns-else-reg-eq0
-unfolding written latch
-returns-else-reg-eq0 c = let o : c.args.addr % 64 % 2 ≡ 1 = omega arith in simp (lt-ltb _ _ c.if-reg-lt16.true, o)
-
 pub returns-then-reg-le46 : goal.returns-then-reg-le46
 unfolding written
 returns-then-reg-le46 c = rw (colour (c.args.addr % 64) (omega arith) (omega arith))
@@ -40,62 +32,6 @@ returns-then-reg-le46 c = rw (colour (c.args.addr % 64) (omega arith) (omega ari
 pub returns-else-reg-le46 : goal.returns-else-reg-le46
 unfolding written
 returns-else-reg-le46 c = rw (beyond (c.args.addr % 64) (omega arith) (omega arith))
-
-pub returns-in-16 : goal.returns-in-16
-unfolding written latch
-returns-in-16 c = rw c.in-16.is
-
-pub returns-in-18 : goal.returns-in-18
-unfolding written latch
-returns-in-18 c = rw c.in-18.is
-
-pub returns-in-21 : goal.returns-in-21
-unfolding written latch
-returns-in-21 c = rw c.in-21.is
-
-pub returns-in-24 : goal.returns-in-24
-unfolding written latch
-returns-in-24 c = rw c.in-24.is
-
-pub returns-in-27 : goal.returns-in-27
-unfolding written latch
-returns-in-27 c = rw c.in-27.is
-
-pub returns-in-28 : goal.returns-in-28
-unfolding written latch
-returns-in-28 c = rw c.in-28.is
-
-pub returns-in-29 : goal.returns-in-29
-unfolding written latch
-returns-in-29 c = rw c.in-29.is
-
-pub returns-in-32 : goal.returns-in-32
-unfolding written latch
-returns-in-32 c = rw c.in-32.is
-
-pub returns-in-33 : goal.returns-in-33
-unfolding written latch
-returns-in-33 c = rw c.in-33.is
-
-pub returns-in-34 : goal.returns-in-34
-unfolding written latch
-returns-in-34 c = rw c.in-34.is
-
-pub returns-in-35 : goal.returns-in-35
-unfolding written latch
-returns-in-35 c = rw c.in-35.is
-
-pub returns-in-36 : goal.returns-in-36
-unfolding written latch
-returns-in-36 c = rw c.in-36.is
-
-pub returns-in-37 : goal.returns-in-37
-unfolding written latch
-returns-in-37 c = rw c.in-37.is
-
-pub returns-in-38 : goal.returns-in-38
-unfolding written latch
-returns-in-38 c = rw c.in-38.is
 
 pub returns-in_default : goal.returns-in_default
 unfolding written

@@ -9,7 +9,7 @@ small : (b : Bool) → pick b 256 0 ≤ 256
 small b = pick_either (λ (n : ℕ). n ≤ 256) b (omega arith) (omega arith)
 
 pub overflow_add-self : goal.overflow_add-self
-overflow_add-self c = rw c.pick16.ensures (omega (arith, small c.has_bit-high.result))
+overflow_add-self c = rw c.pick.ensures (omega (arith, small c.has_bit-high.result))
 
 pub returns : goal.returns
-returns c = simp (c.pick16.ensures, c.has_bit-high.ensures)
+returns c = simp (c.pick.ensures, c.has_bit-high.ensures)

@@ -1,9 +1,0 @@
--- The measure is what is left of the states; nothing has to hold from turn to turn.
-use Rattle.std.proofs.Common.{◌-◌}
-use Rattle.abreast.proofs.kind_of.Given as goal
-
-abbrev pub invariant-loop-i : goal.invariant-loop-i
-invariant-loop-i l = Unit {0}
-
-abbrev pub decreases-loop-i : goal.decreases-loop-i
-decreases-loop-i l = 1500 - l.i

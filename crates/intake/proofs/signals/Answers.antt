@@ -1,4 +1,0 @@
-use Rattle.intake.proofs.signals.Goals as goal
-
-pub returns : goal.returns
-returns c = rw c.go_to.ensures at c.tell.ensures

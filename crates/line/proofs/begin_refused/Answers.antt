@@ -1,7 +1,0 @@
-use native.Mathlib.Omega.{arith}
-use Rattle.line.proofs.Join.{on}
-use Rattle.line.proofs.begin_refused.Goals as goal
-
-pub returns : goal.returns
-returns c =
-    (omega (arith, c.byte-a.ensures.0, c.byte-b.ensures.0, c.byte-c.ensures.0, c.byte-d.ensures.0, c.byte-e.ensures.0, c.byte-f.ensures.0, c.byte-g.ensures.0, c.byte.ensures.0), on c.byte-a.ensures.1 (on c.byte-b.ensures.1 (on c.byte-c.ensures.1 (on c.byte-d.ensures.1 (on c.byte-e.ensures.1 (on c.byte-f.ensures.1 (on c.byte-g.ensures.1 c.byte.ensures.1)))))))

@@ -1,4 +1,0 @@
-use Rattle.scene.proofs.rows_at.Goals as goal
-
-pub returns : goal.returns
-returns c = simp (c.word_at-2.ensures, c.word_at.ensures)

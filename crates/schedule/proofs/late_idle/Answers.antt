@@ -1,7 +1,0 @@
-use mathlib.Core.Path.{refl}
-use Rattle.schedule.specs.Diagram.{happens}
-use Rattle.schedule.proofs.late_idle.Goals as goal
-
-pub returns : goal.returns
-unfolding happens
-returns c = refl

@@ -1,4 +1,0 @@
-use Rattle.vcd.proofs.+decimal.Given as goal
-
-abbrev pub decreases-decimal : goal.decreases-decimal
-decreases-decimal l = l.more
