@@ -450,7 +450,7 @@ fn one(
     x: u64,
     number: u64,
 ) -> Found {
-    let Some(chip) = scene::decode_newest(body) else {
+    let Ok(chip) = scene::decode_newest(body) else {
         return found;
     };
     if !chip::is_accepted(chip) {

@@ -87,7 +87,7 @@ fn about(kind: u8, address: u16, a: u8, b: u8) -> bool {
     if n != 311 {
         return false;
     }
-    let Some(chip) = scene::decode_newest(&body) else {
+    let Ok(chip) = scene::decode_newest(&body) else {
         return false;
     };
     match kind {

@@ -25,10 +25,10 @@ struct Fetch<'a> {
 // The pointer slot of sprite k; bit `at` is AEC for it. A slot stands where it is called, compiled for its own sprite.
 #[inline(always)]
 #[tactic(auto, unfolding(crate::specs::Fetches::pointing_read, sprites::specs::Sprites::sprite_at))]
-fn pointing(slots: &mut Slots, f: &Fetch<'_>, k: usize, at: u32)
+fn pointing(slots: &mut Slots, f: Fetch<'_>, k: usize, at: u32)
     requires sprite { k < 8 }
     requires bit { at < 32 }
-    ensures { in_slots slots.new ≡ from f.now (pointing_read k (has_bit f.now.sprites.dma k) (sprite_at f.now.sprites k).mc (has_bit f.now.low at)) (in_slots slots.old) }
+    ensures { in_slots slots.new ≡ from f.entry (pointing_read k (has_bit f.entry.sprites.dma k) (sprite_at f.entry.sprites k).mc (has_bit f.entry.low at)) (in_slots slots.old) }
 {
     let on = laws::has_bit(f.sprites.dma, k);
     let mc = f.sprites.each[k].mc;
@@ -44,10 +44,10 @@ fn pointing(slots: &mut Slots, f: &Fetch<'_>, k: usize, at: u32)
 // Its data slot, with MC as the slot finds it.
 #[inline(always)]
 #[tactic(auto, unfolding(crate::specs::Fetches::fetching_read))]
-fn fetching(slots: &mut Slots, f: &Fetch<'_>, k: usize, mc: u8, at: u32)
+fn fetching(slots: &mut Slots, f: Fetch<'_>, k: usize, mc: u8, at: u32)
     requires sprite { k < 8 }
     requires bit { at < 32 }
-    ensures { in_slots slots.new ≡ fetching_read k (has_bit f.now.sprites.dma k) mc (has_bit f.now.low at) f.now.memory.ram.now f.now.memory.rom.now f.now.memory.bank (in_slots slots.old) }
+    ensures { in_slots slots.new ≡ fetching_read k (has_bit f.entry.sprites.dma k) mc (has_bit f.entry.low at) f.entry.memory.ram.now f.entry.memory.rom.now f.entry.memory.bank (in_slots slots.old) }
 {
     let on = laws::has_bit(f.sprites.dma, k);
     let low = laws::is_set(f.low, at);
@@ -62,11 +62,11 @@ fn fetching(slots: &mut Slots, f: &Fetch<'_>, k: usize, mc: u8, at: u32)
 // Both slots of sprite k; AEC for the one is bit `first`, for the other bit `second`.
 #[inline(always)]
 #[tactic(auto, unfolding(crate::specs::Fetches::pair_read, sprites::specs::Sprites::sprite_at))]
-fn pair(slots: &mut Slots, f: &Fetch<'_>, k: usize, first: u32, second: u32)
+fn pair(slots: &mut Slots, f: Fetch<'_>, k: usize, first: u32, second: u32)
     requires sprite { k < 8 }
     requires first { first < 32 }
     requires second { second < 32 }
-    ensures { in_slots slots.new ≡ from f.now (sprite_read f.now.sprites f.now.low k first second) (in_slots slots.old) }
+    ensures { in_slots slots.new ≡ from f.entry (sprite_read f.entry.sprites f.entry.low k first second) (in_slots slots.old) }
 {
     let on = laws::has_bit(f.sprites.dma, k);
     let next = sprites::moved(on, f.sprites.each[k].mc, 1);
@@ -76,9 +76,9 @@ fn pair(slots: &mut Slots, f: &Fetch<'_>, k: usize, first: u32, second: u32)
 
 // The sprites 4 and 5; bit `at` is AEC for the first one's data, and the other bits follow it.
 #[tactic(auto, unfolding(crate::specs::Fetches::four_five))]
-fn four_five(slots: &mut Slots, f: &Fetch<'_>, at: u32)
+fn four_five(slots: &mut Slots, f: Fetch<'_>, at: u32)
     requires { at < 16 }
-    ensures { in_slots slots.new ≡ from f.now (four_five f.now.sprites f.now.low at) (in_slots slots.old) }
+    ensures { in_slots slots.new ≡ from f.entry (four_five f.entry.sprites f.entry.low at) (in_slots slots.old) }
 {
     pair(slots, f, 4, 2, at);
     pair(slots, f, 5, at + 1, at + 2);
@@ -86,9 +86,9 @@ fn four_five(slots: &mut Slots, f: &Fetch<'_>, at: u32)
 
 // The sprites 6 and 7, from bit `at` on.
 #[tactic(auto, unfolding(crate::specs::Fetches::six_seven))]
-fn six_seven(slots: &mut Slots, f: &Fetch<'_>, at: u32)
+fn six_seven(slots: &mut Slots, f: Fetch<'_>, at: u32)
     requires { at < 16 }
-    ensures { in_slots slots.new ≡ from f.now (six_seven f.now.sprites f.now.low at) (in_slots slots.old) }
+    ensures { in_slots slots.new ≡ from f.entry (six_seven f.entry.sprites f.entry.low at) (in_slots slots.old) }
 {
     pair(slots, f, 6, at, at + 1);
     pair(slots, f, 7, at + 2, at + 3);
@@ -96,9 +96,9 @@ fn six_seven(slots: &mut Slots, f: &Fetch<'_>, at: u32)
 
 // The four sprites whose slots are early on both kinds.
 #[tactic(auto, unfolding(crate::specs::Fetches::four_to_seven))]
-fn four_to_seven(slots: &mut Slots, f: &Fetch<'_>, at: u32)
+fn four_to_seven(slots: &mut Slots, f: Fetch<'_>, at: u32)
     requires { at < 8 }
-    ensures { in_slots slots.new ≡ from f.now (four_to_seven f.now.sprites f.now.low at) (in_slots slots.old) }
+    ensures { in_slots slots.new ≡ from f.entry (four_to_seven f.entry.sprites f.entry.low at) (in_slots slots.old) }
 {
     four_five(slots, f, at);
     six_seven(slots, f, at + 3);
@@ -106,9 +106,9 @@ fn four_to_seven(slots: &mut Slots, f: &Fetch<'_>, at: u32)
 
 // The sprites 0 and 1: bit `at` is the cycle of sprite 0's pointer, and serves its data too.
 #[tactic(auto, unfolding(crate::specs::Fetches::zero_one))]
-fn zero_one(slots: &mut Slots, f: &Fetch<'_>, at: u32)
+fn zero_one(slots: &mut Slots, f: Fetch<'_>, at: u32)
     requires { at < 16 }
-    ensures { in_slots slots.new ≡ from f.now (zero_one f.now.sprites f.now.low at) (in_slots slots.old) }
+    ensures { in_slots slots.new ≡ from f.entry (zero_one f.entry.sprites f.entry.low at) (in_slots slots.old) }
 {
     pair(slots, f, 0, at, at);
     pair(slots, f, 1, at + 1, at + 2);
@@ -116,9 +116,9 @@ fn zero_one(slots: &mut Slots, f: &Fetch<'_>, at: u32)
 
 // The three sprites whose slots are late on both kinds.
 #[tactic(auto, unfolding(crate::specs::Fetches::zero_to_two))]
-fn zero_to_two(slots: &mut Slots, f: &Fetch<'_>, at: u32)
+fn zero_to_two(slots: &mut Slots, f: Fetch<'_>, at: u32)
     requires { at < 8 }
-    ensures { in_slots slots.new ≡ from f.now (zero_to_two f.now.sprites f.now.low at) (in_slots slots.old) }
+    ensures { in_slots slots.new ≡ from f.entry (zero_to_two f.entry.sprites f.entry.low at) (in_slots slots.old) }
 {
     zero_one(slots, f, at);
     pair(slots, f, 2, at + 3, at + 4);
@@ -126,8 +126,8 @@ fn zero_to_two(slots: &mut Slots, f: &Fetch<'_>, at: u32)
 
 // Sprite 3 as a line begins: on the 6567R8 its pointer slot was in the line before.
 #[tactic(auto, unfolding(crate::specs::Fetches::third_early, schedule::specs::Kind::kind_of, sprites::specs::Sprites::sprite_at))]
-fn third(slots: &mut Slots, f: &Fetch<'_>, kind: u8)
-    ensures { in_slots slots.new ≡ from f.now (third_early f.now.sprites f.now.low (kind_of kind)) (in_slots slots.old) }
+fn third(slots: &mut Slots, f: Fetch<'_>, kind: u8)
+    ensures { in_slots slots.new ≡ from f.entry (third_early f.entry.sprites f.entry.low (kind_of kind)) (in_slots slots.old) }
 {
     if kind == schedule::KIND_6567R8 {
         fetching(slots, f, 3, f.sprites.each[3].mc, 1);
@@ -138,8 +138,8 @@ fn third(slots: &mut Slots, f: &Fetch<'_>, kind: u8)
 
 // Sprite 3 as a line ends: only the 6567R8 has a slot of it there.
 #[tactic(auto, unfolding(crate::specs::Fetches::third_late, schedule::specs::Kind::kind_of))]
-fn third_late(slots: &mut Slots, f: &Fetch<'_>, kind: u8)
-    ensures { in_slots slots.new ≡ from f.now (third_late f.now.sprites f.now.low (kind_of kind)) (in_slots slots.old) }
+fn third_late(slots: &mut Slots, f: Fetch<'_>, kind: u8)
+    ensures { in_slots slots.new ≡ from f.entry (third_late f.entry.sprites f.entry.low (kind_of kind)) (in_slots slots.old) }
 {
     if kind == schedule::KIND_6567R8 {
         pointing(slots, f, 3, 10);
@@ -174,8 +174,8 @@ pub fn early(slots: &mut Slots, sprites: Sprites, kind: u8, low: u32, ptrs: u8, 
         memory: *m,
     };
     let at = place_early(kind);
-    third(slots, &f, kind);
-    four_to_seven(slots, &f, at);
+    third(slots, f, kind);
+    four_to_seven(slots, f, at);
 }
 
 // What the slots at its end fetch, with the sprites as the load of MC left them; bit c - 54 of `low` is for cycle c.
@@ -190,6 +190,6 @@ pub fn late(slots: &mut Slots, sprites: Sprites, kind: u8, low: u32, ptrs: u8, m
         memory: *m,
     };
     let at = place_late(kind);
-    zero_to_two(slots, &f, at);
-    third_late(slots, &f, kind);
+    zero_to_two(slots, f, at);
+    third_late(slots, f, kind);
 }

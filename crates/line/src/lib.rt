@@ -1,7 +1,7 @@
 // The chart's text: a tick's eight numbers, in decimal, in a lent buffer; and the pieces that every text is made of.
 #![tactic(auto)]
 
-ghost use Rattle.std.specs.Prelude.{◌≡◌, [], ◌∷◌, ◌+◌, ◌≤◌, ◌<◌, ◌%◌, length};
+ghost use Rattle.std.specs.Prelude.{◌≡◌, [], ◌∷◌, ◌+◌, ◌/◌, ◌≤◌, ◌<◌, ◌%◌, length};
 ghost use Rattle.calls.specs.Calls.{dma_count};
 ghost use Rattle.line.specs.Line.{level_of, numbers_of};
 ghost use Rattle.line.specs.Text.{glyph_of, digits_of, text_of, Written, four_of, line_of, steps_of, refused_of};
@@ -74,16 +74,39 @@ pub fn text(out: &mut [u8], at: usize, words: &[u8]) -> usize
     at + words.len()
 }
 
+// A number over a base, and its last digit in it. Two and ten stand here as constants, since a division by what is not known costs as much as all the rest.
+fn over(n: u64, base: u64) -> u64
+    requires { 0 < base }
+    ensures { result ≡ n / base }
+{
+    match base {
+        10 => n / 10,
+        2 => n / 2,
+        _ => n / base,
+    }
+}
+
+fn digit_in(n: u64, base: u64) -> u64
+    requires { 0 < base }
+    ensures { result ≡ n % base }
+{
+    match base {
+        10 => n % 10,
+        2 => n % 2,
+        _ => n % base,
+    }
+}
+
 // A number in a base, of one digit and at most so many more.
 pub fn digits(out: &mut [u8], at: usize, base: u64, more: u16, n: u64) -> usize
     requires { (at + more + 1 ≤ length out.old) × (0 < base) × (base ≤ 10) }
     ensures { (result ≤ at + more + 1) × Written out.old at (digits_of base more n) out.new result }
 {
     if (more == 0) | (n < base) {
-        return byte(out, at, (48 + n % base) as u8);
+        return byte(out, at, (48 + digit_in(n, base)) as u8);
     }
-    let a = digits(out, at, base, more - 1, n / base);
-    byte(out, a, (48 + n % base) as u8)
+    let a = digits(out, at, base, more - 1, over(n, base));
+    byte(out, a, (48 + digit_in(n, base)) as u8)
 }
 
 // A number's last digit.

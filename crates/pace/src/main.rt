@@ -39,24 +39,34 @@ fn together(chip: Chip, memories: Memories<'_>, bank: u8, n: u64) -> Chip {
     sequencer::ticks(chip, memories.ram, memories.rom, memories.colour, bank, n).chip
 }
 
+// A register write, and the ticks after it.
+fn step(chip: Chip, memories: Memories<'_>, bank: u8, apart: bool, step: &[u8; 4]) -> Chip {
+    let [address, value, low, high] = *step;
+    let written = calls::write_register(chip, u16::from(address), value);
+    let count = u64::from(u16::from_le_bytes([low, high]));
+    if apart {
+        return one_by_one(written, memories, bank, count);
+    }
+    together(written, memories, bank, count)
+}
+
 // One turn through the steps; bytes at their end that are no whole step are passed over.
-fn turn<F: Fn(Chip, u64) -> Chip>(chip: Chip, go: &F, steps: &[u8]) -> Chip
-    requires { F.IsAlwaysCallable go.now }
-{
+fn turn(chip: Chip, memories: Memories<'_>, bank: u8, apart: bool, steps: &[u8]) -> Chip {
     let mut at = chip;
-    for step in steps.chunks_exact(4) {
-        let written = calls::write_register(at, u16::from(step[0]), step[1]);
-        at = go(written, u64::from(u16::from_le_bytes([step[2], step[3]])));
+    for bytes in steps.as_chunks::<4>().0 {
+        at = step(at, memories, bank, apart, bytes);
     }
     at
 }
 
-fn turns<F: Fn(Chip, u64) -> Chip>(chip: Chip, go: &F, steps: &[u8], n: u64) -> Chip
-    requires { F.IsAlwaysCallable go.now }
-{
+// So many turns; without a whole step they leave the chip as it is.
+fn turns(chip: Chip, memories: Memories<'_>, bank: u8, apart: bool, steps: &[u8], n: u64) -> Chip {
+    if steps.len() < 4 {
+        return chip;
+    }
     let mut at = chip;
     for _ in 0..n {
-        at = turn(at, go, steps);
+        at = turn(at, memories, bank, apart, steps);
     }
     at
 }
@@ -68,26 +78,12 @@ fn tell(chip: Chip) {
 }
 
 fn pace(body: &[u8], head: [u8; 6], steps: &[u8], memories: Memories<'_>) {
-    let Some(chip) = scene::decode_newest(body) else {
+    let Ok(chip) = scene::decode_newest(body) else {
         return;
     };
     let [bank, apart, a, b, c, d] = head;
     let n = u64::from(u32::from_le_bytes([a, b, c, d]));
-    if apart == 1 {
-        tell(turns(
-            chip,
-            &|at, count| one_by_one(at, memories, bank, count),
-            steps,
-            n,
-        ));
-    } else {
-        tell(turns(
-            chip,
-            &|at, count| together(at, memories, bank, count),
-            steps,
-            n,
-        ));
-    }
+    tell(turns(chip, memories, bank, apart == 1, steps, n));
 }
 
 fn main() {

@@ -158,7 +158,7 @@ fn tell(told: Told) -> bool {
 // Answers one case that is whole; false where the run ends before it.
 fn answer(case: [u8; 6], body: &[u8], memories: Memories<'_>) -> bool {
     let [number, bank, a, b, c, d] = case;
-    let Some(chip) = scene::decode_newest(body) else {
+    let Ok(chip) = scene::decode_newest(body) else {
         return false;
     };
     let Some(call) = call_of(number, a, b, c, d) else {

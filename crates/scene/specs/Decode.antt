@@ -1,5 +1,5 @@
 -- What the 311 bytes of the newest version hold, field by field in the order of FORMATS, Scene, and which bytes are a scene.
-use Rattle.std.specs.Prelude.{ℕ, zero, suc, ◌+◌, ◌*◌, Bool, ◌&&◌, ◌||◌, cond, List, [], ◌∷◌, ◌++◌, eqb, ltb, Option, None, Some}
+use Rattle.std.specs.Prelude.{ℕ, zero, suc, ◌+◌, ◌*◌, Bool, ◌&&◌, ◌||◌, cond, List, [], ◌∷◌, ◌++◌, eqb, ltb, Result, Ok, Err}
 use Rattle.registers.specs.declared.Irq.{Irq}
 use Rattle.registers.specs.declared.Registers.{Registers}
 use Rattle.timing.specs.declared.Beam.{Beam}
@@ -15,6 +15,8 @@ use Rattle.side.specs.declared.Side.{Side}
 use Rattle.picture.specs.declared.Pen.{Pen}
 use Rattle.chip.specs.declared.Picture.{Picture}
 use Rattle.chip.specs.declared.Chip.{Chip}
+use Rattle.chip.specs.Chip.{powered}
+use Rattle.scene.specs.declared.NoScene.{NoScene}
 use Rattle.scene.specs.Numbers.{word_at, long_at, clock_at, flag_at, aec_of, pending_of}
 use Rattle.versions.specs.Versions.{byte_at, is_flag, sprite_flags, is_newest, renewed}
 
@@ -219,15 +221,16 @@ fields_fine s = head_fine s && early_flags s && sprites_clear s && late_flags s 
 abbrev pub older_fine : List ℕ → Bool
 older_fine s = head_fine s && early_flags s && sprite_flags s && late_flags s && ranges_fine s
 
-abbrev pub no_scene : Option Chip
-no_scene = None
+-- what else comes out: the chip at power-up
+abbrev pub no_scene : Result Chip NoScene
+no_scene = Err (record { chip = powered 0 })
 
-unfoldable pub decoded_fields : List ℕ → Option Chip
-decoded_fields s = cond (fields_fine s) (Some (chip_at s)) no_scene
+unfoldable pub decoded_fields : List ℕ → Result Chip NoScene
+decoded_fields s = cond (fields_fine s) (Ok (chip_at s)) no_scene
 
-unfoldable pub decoded_newest : List ℕ → Option Chip
+unfoldable pub decoded_newest : List ℕ → Result Chip NoScene
 decoded_newest s = cond (is_newest s) (decoded_fields s) no_scene
 
 -- 02 (iv), 02 (ix), 02 (xi), 02 (xiv): every version is read
-unfoldable pub decoded : List ℕ → Option Chip
+unfoldable pub decoded : List ℕ → Result Chip NoScene
 decoded s = decoded_newest (renewed s)

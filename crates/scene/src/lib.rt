@@ -7,7 +7,7 @@ ghost use Rattle.laws.specs.Bytes.{low_byte, high_byte};
 ghost use Rattle.scene.specs.Numbers.{bits, clock_of, place_byte, pending_of, word_at, long_at, clock_at};
 ghost use Rattle.versions.specs.Put.{Put};
 ghost use Rattle.versions.specs.Versions.{next, third};
-ghost use Rattle.scene.specs.Decode.{eight_at, beam_at, registers_at, irq_at, border_at, sprite_from, sprites_at, pointers_at, words_at, sprite_bytes_at, matrix_at, rows_at, bus_at, frame_at, pen_at, waits_at, side_at, picture_at, chip_at, head_fine, early_flags, sprites_clear, late_flags, ranges_fine, fields_fine, decoded_fields, decoded_newest, decoded};
+ghost use Rattle.scene.specs.Decode.{eight_at, beam_at, registers_at, irq_at, border_at, sprite_from, sprites_at, pointers_at, words_at, sprite_bytes_at, matrix_at, rows_at, bus_at, frame_at, pen_at, waits_at, side_at, picture_at, chip_at, head_fine, early_flags, sprites_clear, late_flags, ranges_fine, fields_fine, no_scene, decoded_fields, decoded_newest, decoded};
 ghost use Rattle.scene.specs.Encode.{head_bytes, register_bytes, mask_bytes, sprite_bytes, sprite_row, sprite_rows, entry_bytes, rest_of, clock_bytes, clocks_bytes, rest_bytes, tail_bytes, encoded};
 
 use arbitration::Bus;
@@ -20,6 +20,12 @@ use rows::{Rows, Waits};
 use side::Side;
 use sprites::{Sprite, Sprites};
 use timing::Beam;
+
+// Bytes that are no scene: the chip at power-up comes in place of theirs.
+#[derive(Clone, Copy)]
+pub struct NoScene {
+    pub chip: Chip,
+}
 
 // ---- numbers as bytes
 
@@ -375,23 +381,31 @@ fn chip_at(bytes: &[u8; 311]) -> Chip
 
 // ---- versions
 
+fn no_scene() -> Result<Chip, NoScene>
+    ensures { result ≡ no_scene }
+{
+    Err(NoScene {
+        chip: chip::power_up(0),
+    })
+}
+
 // The newest version alone.
 #[tactic(auto, unfolding(crate::specs::Decode::decoded_newest, crate::specs::Decode::decoded_fields))]
-pub fn decode_newest(bytes: &[u8]) -> Option<Chip>
+pub fn decode_newest(bytes: &[u8]) -> Result<Chip, NoScene>
     ensures { result ≡ decoded_newest bytes.now }
 {
     let Ok(newest) = <&[u8; 311]>::try_from(bytes) else {
-        return None;
+        return no_scene();
     };
     if versions::is_version(bytes, 5, 311) && fields_fine(newest) {
-        return Some(chip_at(newest));
+        return Ok(chip_at(newest));
     }
-    None
+    no_scene()
 }
 
 // Version 4 has no refresh counter: 0xFF, which is right from the next frame on.
 #[tactic(auto, unfolding(versions::specs::Versions::next))]
-fn decode_fourth(bytes: &[u8]) -> Option<Chip>
+fn decode_fourth(bytes: &[u8]) -> Result<Chip, NoScene>
     ensures { result ≡ decoded_newest (next 4 310 255 bytes.now) }
 {
     if !versions::is_version(bytes, 4, 310) {
@@ -404,7 +418,7 @@ fn decode_fourth(bytes: &[u8]) -> Option<Chip>
 
 // Version 3 has no lost cycles: 0, which is right from the next line on.
 #[tactic(auto, unfolding(versions::specs::Versions::next))]
-fn decode_third(bytes: &[u8]) -> Option<Chip>
+fn decode_third(bytes: &[u8]) -> Result<Chip, NoScene>
     ensures { result ≡ decoded_newest (next 4 310 255 (next 3 309 0 bytes.now)) }
 {
     if !versions::is_version(bytes, 3, 309) {
@@ -417,7 +431,7 @@ fn decode_third(bytes: &[u8]) -> Option<Chip>
 
 // Version 2 has a flag for each sprite: the mask decides, and they go.
 #[tactic(auto, unfolding(versions::specs::Versions::third))]
-fn decode_second(bytes: &[u8]) -> Option<Chip>
+fn decode_second(bytes: &[u8]) -> Result<Chip, NoScene>
     ensures { result ≡ decoded_newest (next 4 310 255 (next 3 309 0 (third bytes.now))) }
 {
     if !versions::is_flagged(bytes) {
@@ -430,7 +444,7 @@ fn decode_second(bytes: &[u8]) -> Option<Chip>
 
 // Version 1 has no kind: it is the 6569's, 0.
 #[tactic(auto, unfolding(crate::specs::Decode::decoded, versions::specs::Versions::renewed, versions::specs::Versions::next))]
-pub fn decode(bytes: &[u8]) -> Option<Chip>
+pub fn decode(bytes: &[u8]) -> Result<Chip, NoScene>
     ensures { result ≡ decoded bytes.now }
 {
     if !versions::is_version(bytes, 1, 308) {

@@ -26,7 +26,7 @@ use Rattle.sequencer.specs.Tick.{ticks_from}
 use Rattle.sequencer.specs.Line.{line_chip, at_line_end, lineable, line_refusal, lined, lines_from}
 use Rattle.sequencer.specs.Machinery.Parts.{Held, sound_refusal, tested_from}
 use Rattle.sequencer.proofs.Numbers.{run_kind}
-use Rattle.sequencer.proofs.Runs.{none, tested_some}
+use Rattle.sequencer.proofs.Runs.{none, only_tested, sound_passes, tested_some}
 use Rattle.sequencer.proofs.Staged.{some_after}
 use Rattle.sequencer.proofs.Until as Until
 use Rattle.sequencer.proofs.Whole.{Whole, whole_line, held_on, line_at}
@@ -188,6 +188,17 @@ module _ (h : Host) (c : Chip) where
   -- what is lent or the state refused, it is the refusal of the lines
   pub lines_unsound : (n : ℕ) {r : ℕ} → r ≡ sound_refusal h c → (r ≡ 0 → ⊥) → (n ≡ 0 → ⊥) → answer r c ≡ lines_from h n c
   lines_unsound n {r} e nz nn = lines_refused r n (sound_first (λ q. nz (e ∙ q)) ∙ sym e) nz nn
+
+  -- what a call that only tests answers: refused, it is the refusal of the lines
+  pub lines_tested : (n : ℕ) {a : Answer} → a ≡ tested_from h 0 c → (a.refused ≡ 0 → ⊥) → (n ≡ 0 → ⊥) → a ≡ lines_from h n c
+  lines_tested n {a} e nz nn =
+      let told = e ∙ only_tested h c in
+      let z : (sound_refusal h c ≡ 0 → ⊥) = λ q. nz (ap (λ (b : Answer). b.refused) told ∙ q) in
+      told ∙ lines_unsound n refl z nn
+
+  -- and else nothing lent and no state is refused
+  pub sound_told : {a : Answer} → a ≡ tested_from h 0 c → a.refused ≡ 0 → (lent_refusal h ≡ 0) × (accepted c ≡ true)
+  sound_told {a} e z = sound_passes h c (sym (ap (λ (b : Answer). b.refused) (e ∙ only_tested h c)) ∙ z)
 
   pub lines_mid : (n : ℕ) → (lent_refusal h ≡ 0) × (accepted c ≡ true) → (c.side.beam.cycle ≡ last_cycle (kind_of c.side.beam.kind) → ⊥) → (n ≡ 0 → ⊥) → answer 11 c ≡ lines_from h n c
   lines_mid n p z nn = lines_refused 11 n (line_11_then h c p.0 p.1 (ne_eqb c.side.beam.cycle (last_cycle (kind_of c.side.beam.kind)) z)) (λ q. absurd (omega (arith, q))) nn

@@ -92,8 +92,18 @@ module _ (h : Host) (c : Chip) where
   sound_state e = rw e
 
   -- what a run may begin with
+  pub passed_held : (lent_refusal h ≡ 0) × (accepted c ≡ true) → Held h c.regs (world_of c)
+  passed_held p = record { free = p.0; fine = p.1 }
+
   pub sound_held : sound_refusal h c ≡ 0 → Held h c.regs (world_of c)
-  sound_held e = let p = sound_passes e in record { free = p.0; fine = p.1 }
+  sound_held e = passed_held (sound_passes e)
+
+  -- a call that tests, with no tick to do
+  pub only_tested : tested_from h 0 c ≡ answer (sound_refusal h c) c
+  unfolding tested_from
+  only_tested = by_test (λ (a : Answer). a ≡ answer (sound_refusal h c) c) (eqb (sound_refusal h c) 0)
+      (λ e. none h c ∙ ap (λ (n : ℕ). answer n c) (sym (eqb-true (sound_refusal h c) 0 e)))
+      (λ e. refl)
 
   module _ (n : ℕ) where
     pub no_ticks : n ≡ 0 → answer 0 c ≡ ticks_from h n c

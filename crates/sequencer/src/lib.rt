@@ -2,7 +2,7 @@
 // A call asks nothing of its caller: what it does not take it refuses by number, with the state unchanged.
 #![tactic(auto)]
 
-ghost use Rattle.std.specs.Prelude.{◌≡◌, Bool, not, ◌-◌, ◌<◌, ◌≤◌, IfOk, MatchResult};
+ghost use Rattle.std.specs.Prelude.{◌≡◌, Bool, not, ◌-◌, ◌<◌, ◌≤◌};
 ghost use Rattle.laws.specs.Clock.{InRange, CanTick};
 ghost use Rattle.memory.specs.Lent.{host, seen};
 ghost use Rattle.schedule.specs.Kind.{kind_of, last_cycle};
@@ -14,7 +14,7 @@ ghost use Rattle.engine.specs.World.{world_in};
 ghost use Rattle.world.specs.Tick.{tick_world, tick_reads};
 ghost use Rattle.sequencer.specs.Tick.{tickable, ticked, ticks_from};
 ghost use Rattle.sequencer.specs.Line.{at_line_end, lineable, lined, lines_from};
-ghost use Rattle.sequencer.specs.Machinery.Parts.{Ready, Held, Roomy, Part, sound_refusal, tested_from, answered};
+ghost use Rattle.sequencer.specs.Machinery.Parts.{Ready, Held, Roomy, Part, tested_from, answered};
 ghost use Rattle.sequencer.specs.Machinery.Skip.{skippable_by, skipped, core_later};
 
 use access::Slots;
@@ -339,31 +339,6 @@ fn ended(regs: Registers, ran: Ran, arrays: Arrays) -> Answer
     }
 }
 
-// What is lent, where neither it nor the state is refused; else the number of the refusal. Called, it would copy the chip.
-#[inline(always)]
-#[tactic(auto, using(crate::proofs::Runs::sound_lent, crate::proofs::Runs::sound_state))]
-fn sound<'a>(
-    chip: Chip,
-    ram: &'a [u8],
-    rom: &'a [u8],
-    colour: &'a [u8],
-    bank: u8,
-) -> Result<Host<'a>, u8>
-    ensures lent { IfOk result (λ h. seen h ≡ host ram.now rom.now colour.now bank) }
-    ensures number { MatchResult result (λ h. sound_refusal (host ram.now rom.now colour.now bank) chip ≡ 0) (λ n. (n ≡ sound_refusal (host ram.now rom.now colour.now bank) chip) × (n ≡ 0 → ⊥)) }
-{
-    match memory::lend(ram, rom, colour, bank) {
-        Err(why) => Err(why.number()),
-        Ok(host) => {
-            let state = chip::state_refusal(chip);
-            if state != 0 {
-                return Err(state);
-            }
-            Ok(host)
-        }
-    }
-}
-
 // A run of ticks of an accepted state: the picture's arrays are copied once, lent once, and packed once.
 fn run_chip(chip: Chip, host: &Host<'_>, n: u64) -> Answer
     requires { Held (seen host.now) chip.regs (world_of chip) }
@@ -379,13 +354,21 @@ fn run_chip(chip: Chip, host: &Host<'_>, n: u64) -> Answer
 }
 
 // Ticks one by one: what is lent and the state are tested once, since a tick keeps both. With no tick to do it still tests.
-#[tactic(auto, using(crate::proofs::Runs::sound_held, crate::proofs::Runs::tested_sound, crate::proofs::Runs::tested_unsound))]
+// Both tests stand here, and `lines` asks here too: where they stand twice a run is compiled without what they show.
+#[tactic(auto, using(crate::proofs::Runs::sound_lent, crate::proofs::Runs::sound_state, crate::proofs::Runs::sound_held, crate::proofs::Runs::tested_sound, crate::proofs::Runs::tested_unsound))]
 fn tested(chip: Chip, ram: &[u8], rom: &[u8], colour: &[u8], bank: u8, n: u64) -> Answer
     ensures { result ≡ tested_from (host ram.now rom.now colour.now bank) n chip }
 {
-    match sound(chip, ram, rom, colour, bank) {
-        Ok(host) => run_chip(chip, &host, n),
-        Err(refused) => chip::answered(refused, chip),
+    let lent = memory::lend(ram, rom, colour, bank);
+    match lent {
+        Err(why) => chip::answered(why.number(), chip),
+        Ok(host) => {
+            let state = chip::state_refusal(chip);
+            if state != 0 {
+                return chip::answered(state, chip);
+            }
+            run_chip(chip, &host, n)
+        }
     }
 }
 
@@ -440,16 +423,20 @@ fn run_lines(chip: Chip, host: &Host<'_>, n: u64) -> Answer
 }
 
 // A run of lines, each written as a whole: what is lent and acceptance are tested once, since a line keeps them and ends where the next begins.
-#[tactic(auto, using(crate::proofs::Runs::sound_held, crate::proofs::Runs::sound_passes, crate::proofs::Lined::lines_none, crate::proofs::Lined::lines_mid, crate::proofs::Lined::lines_unsound))]
+#[tactic(auto, using(crate::proofs::Runs::sound_lent, crate::proofs::Lined::lines_none, crate::proofs::Lined::lines_unsound, crate::proofs::Lined::lines_tested))]
 pub fn lines(chip: Chip, ram: &[u8], rom: &[u8], colour: &[u8], bank: u8, n: u64) -> Answer
     ensures { result ≡ lines_from (host ram.now rom.now colour.now bank) n chip }
 {
     if n == 0 {
         return chip::answered(0, chip);
     }
-    match sound(chip, ram, rom, colour, bank) {
-        Err(refused) => chip::answered(refused, chip),
+    match memory::lend(ram, rom, colour, bank) {
+        Err(why) => chip::answered(why.number(), chip),
         Ok(host) => {
+            let sound = tested(chip, ram, rom, colour, bank, 0);
+            if sound.refused != 0 {
+                return sound;
+            }
             let last = schedule::last_cycle(chip.side.beam.kind);
             if chip.side.beam.cycle != last {
                 return chip::answered(11, chip);

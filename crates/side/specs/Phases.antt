@@ -1,19 +1,11 @@
 -- The border's compares and the sprites' phases, each in its cycle (01, tick 3, 7, 8 and 9).
-use Rattle.std.specs.Prelude.{ℕ, ◌<◌, ◌≡◌, Bool, true, false, cond, List}
+use Rattle.std.specs.Prelude.{ℕ, Bool, cond, List}
 use Rattle.schedule.specs.Kind.{Kind}
-use Rattle.schedule.specs.Diagram.{happens, graphics_access, line_begins, left40, left38, right38, right40, main_remembered, line_ends, mcbase_step, first_phase, second_phase, mc_load}
+use Rattle.schedule.specs.Diagram.{happens, line_begins, left40, left38, right38, right40, main_remembered, line_ends, mcbase_step, first_phase, second_phase, mc_load}
 use Rattle.border.specs.Border as B
 use Rattle.border.specs.declared.Border.{Border}
 use Rattle.sprites.specs.Sprites.{mcbase_stepped, first_phased, second_phased, mc_loaded, fetched}
 use Rattle.sprites.specs.declared.Sprites.{Sprites}
-
--- a cycle with a graphics access, and a line's cycle that has none
-abbrev pub Draws : ℕ → Type 0
-Draws cycle = happens graphics_access cycle ≡ true
-
-pub record Rests (cycle : ℕ) : Type 0 where
-  pub small : cycle < 66
-  pub dark : happens graphics_access cycle ≡ false
 
 unfoldable pub begin_at : ℕ → ℕ → Bool → Border → Border
 begin_at cycle raster den b = cond (happens line_begins cycle) (B.line_begun b raster den) b

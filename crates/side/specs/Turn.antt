@@ -19,8 +19,6 @@ use Rattle.arbitration.specs.Bus as Buses
 use Rattle.rows.specs.Rows.{rowed}
 use Rattle.rows.specs.Rows as Rows
 use Rattle.rows.specs.Pending.{waits, pending_after}
-use Rattle.rows.specs.declared.Rowed.{Rowed}
-use Rattle.side.specs.declared.Orders.{Orders}
 use Rattle.side.specs.declared.Side.{Side}
 use Rattle.side.specs.declared.Turned.{Turned}
 use Rattle.side.specs.Phases.{bordered, phased, slot_moved}
@@ -40,31 +38,6 @@ fresh_side kind =
       changed = false;
       -- 02 (xiv)
       refresh = 0xFF;
-    }
-
--- what the picture is told, but for the slot's fields and the refresh counter, which each part of a line fills in
-abbrev pub orders_of : ℕ → Bool → Bool → Rowed → Bool → Orders
-orders_of cycle bad hidden now aeclow =
-    record {
-      cycle = cycle;
-      graphics = now.graphics;
-      moves = now.moves;
-      waiting = now.waiting;
-      plain = bad || not (eqb now.rc 0);
-      hidden = hidden;
-      vc = now.vc;
-      vmli = now.vmli;
-      rc = now.rc;
-      fills = now.fetches && aeclow;
-      place = now.rows.vmli;
-      column = now.rows.vc;
-      sprite = 0;
-      pointing = false;
-      fetching = false;
-      mask = false;
-      mc = 0;
-      low = false;
-      refresh = 0;
     }
 
 unfoldable pub turned : Controls → Side → Turned

@@ -8,8 +8,9 @@ ghost use Rattle.schedule.specs.Requests.{mask_at};
 ghost use Rattle.schedule.specs.Machinery.Places.{Placed};
 ghost use Rattle.schedule.specs.Machinery.Stretches.{before_graphics};
 ghost use Rattle.arbitration.specs.Bus.{requested};
-ghost use Rattle.side.specs.Phases.{Draws, Rests, begin_at, left40_at, left38_at, right38_at, right40_at, remember_at, end_at, bordered, step_at, first_at, second_at, load_at, phased, slot_moved};
-ghost use Rattle.side.specs.Turn.{fresh_side, orders_of, turned};
+ghost use Rattle.side.specs.Phases.{begin_at, left40_at, left38_at, right38_at, right40_at, remember_at, end_at, bordered, step_at, first_at, second_at, load_at, phased, slot_moved};
+ghost use Rattle.side.specs.Turn.{fresh_side, turned};
+ghost use Rattle.side.specs.Machinery.Halves.{Draws, Rests, orders_of};
 ghost use Rattle.side.specs.Machinery.Leap.{only_counts, leapt};
 
 use arbitration::Bus;

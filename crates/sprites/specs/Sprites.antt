@@ -143,7 +143,7 @@ expand_written k value cycle old s =
 abbrev pub mc_moved : Bool → ℕ → ℕ → ℕ
 mc_moved on bytes mc = cond on ((mc + bytes) % 64) mc
 
--- a slot's bytes move its sprite's own MC on, with DMA
+-- a slot's bytes move its sprite's own MC on. Bauer 3.8.1 rule 5: with DMA on, MC up by one after each byte, mod 64
 unfoldable pub fetched : ℕ → ℕ → Sprites → Sprites
 fetched k bytes s =
     cond (has_bit s.dma k) (sprite_at≔ k (sprite_mc≔ (((sprite_at s k).mc + bytes) % 64) (sprite_at s k)) s) s

@@ -105,6 +105,7 @@ impl Sprites {
     }
 
     // Sprite k's record. A place known beforehand leaves the eight records where they are; a place worked out does not.
+    #[inline(always)]
     #[tactic(auto, unfolding(crate::specs::Sprites::sprite_at))]
     pub fn at(self, k: usize) -> Sprite
         requires { k < 8 }
@@ -123,6 +124,7 @@ impl Sprites {
     }
 
     // Another record for sprite k, in the same way.
+    #[inline(always)]
     fn put(mut self, k: usize, s: Sprite) -> Self
         requires { k < 8 }
         ensures { result ≡ sprite_at≔ k s self }
@@ -140,6 +142,7 @@ impl Sprites {
         self
     }
 
+    #[inline(always)]
     #[tactic(auto, unfolding(crate::specs::Sprites::step_one))]
     fn step_one(self, k: usize) -> Self
         requires { k < 8 }
@@ -167,6 +170,7 @@ impl Sprites {
         self
     }
 
+    #[inline(always)]
     #[tactic(auto, unfolding(crate::specs::Sprites::dma_begun))]
     fn begin(self, k: usize, yexp: u8) -> Self
         requires { k < 8 }
@@ -182,6 +186,7 @@ impl Sprites {
         all
     }
 
+    #[inline(always)]
     #[tactic(auto, unfolding(crate::specs::Sprites::start_one))]
     fn start_one(self, k: usize, y: u8, line: u8, enable: u8, yexp: u8) -> Self
         requires { k < 8 }
@@ -222,6 +227,7 @@ impl Sprites {
         self.start((raster % 256) as u8, my, enable, yexp)
     }
 
+    #[inline(always)]
     #[tactic(auto, unfolding(crate::specs::Sprites::load_one))]
     fn load_one(self, k: usize) -> Self
         requires { k < 8 }
@@ -242,6 +248,7 @@ impl Sprites {
         self
     }
 
+    #[inline(always)]
     #[tactic(auto, unfolding(crate::specs::Sprites::show_one))]
     fn show_one(mut self, k: usize, y: u8, line: u8, enable: u8) -> Self
         requires { k < 8 }
