@@ -1,5 +1,5 @@
 -- A capture, word by word: what each word does to what a reader holds.
-use Rattle.std.specs.Prelude.{ℕ, ◌+◌, ◌-◌, ◌%◌, Bool, true, false, ◌&&◌, ◌||◌, not, cond, List, [], ◌∷◌, ◌++◌, eqb, ltb, leb, length, take, drop, set, get_or, Option, None, Some}
+use Rattle.std.specs.Prelude.{ℕ, ◌+◌, ◌-◌, ◌%◌, Bool, true, false, ◌&&◌, ◌||◌, not, cond, List, [], ◌∷◌, ◌++◌, eqb, ltb, leb, length, take, drop, set, get_or, Result, Ok, Err}
 use Rattle.line.specs.Text.{ascii}
 use Rattle.grammar.specs.declared.Digits.{Digits}
 use Rattle.grammar.specs.declared.Head.{Head}
@@ -110,9 +110,9 @@ timed h t over =
     cond over (go_to h (Refused 17)) (cond (h.begun && ltb t h.mark) (go_to h (Refused 16)) (moved h t))
 
 -- 02 (xiii), reading 10: 14, no time
-abbrev pub marked_at : Head → Option ℕ → Bool → Head
-marked_at h None over = go_to h (Refused 14)
-marked_at h (Some t) over = timed h t over
+abbrev pub marked_at : Head → Result ℕ ℕ → Bool → Head
+marked_at h (Err digits) over = go_to h (Refused 14)
+marked_at h (Ok t) over = timed h t over
 
 unfoldable pub marked : Head → Word → Bool → Head
 marked h digits over = marked_at h (time_of digits) over

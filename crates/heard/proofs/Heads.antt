@@ -7,7 +7,7 @@ use native.Mathlib.Omega.{arith}
 use lib.Dec.{eqb, ltb}
 use lib.ListN.{length, take, drop, get_or}
 use borrow.Author.Tests.{ltb-true, ltb-false}
-use Rattle.std.specs.Prelude.{Option, None, Some}
+use Rattle.std.specs.Prelude.{Result, Ok, Err}
 use Rattle.laws.proofs.Choice.{either, by_test}
 use Rattle.line.specs.Text.{ascii}
 use Rattle.grammar.specs.declared.Head.{Head}
@@ -22,30 +22,30 @@ use Rattle.heard.specs.Agrees.{naming, Sane}
 
 -- ---- a time has 64 bits
 
-abbrev Small : Option ℕ → Type 0
-Small None = Unit
-Small (Some t) = t ≤ 18446744073709551615
+abbrev Small : Result ℕ ℕ → Type 0
+Small (Err digits) = Unit
+Small (Ok t) = t ≤ 18446744073709551615
 
-small_by : (t : ℕ) (digit : ℕ) → Small (time_by t digit)
+small_by : (t : Result ℕ ℕ) (digit : ℕ) → Small (time_by t digit)
 unfolding time_by
-small_by t digit =
+small_by (Err t) digit = either Small (ltb (t * 10 + digit) 18446744073709551616) tt tt
+small_by (Ok t) digit =
     by_test Small (ltb (t * 10 + digit) 18446744073709551616)
     (λ e. let h = ltb-true (t * 10 + digit) 18446744073709551616 e in omega arith)
     (λ e. tt)
 
-small_on : (t : Option ℕ) (b : ℕ) → Small (time_on t b)
+small_on : (t : Result ℕ ℕ) (b : ℕ) → Small (time_on t b)
 unfolding time_on
-small_on None b = tt
-small_on (Some t) b = either Small (ltb b 48) tt (either Small (ltb 57 b) tt (small_by t (b - 48)))
+small_on t b = either Small (ltb b 48) tt (either Small (ltb 57 b) tt (small_by t (b - 48)))
 
-small_from : (w : Word) (t : Option ℕ) → Small t → Small (time_from t w)
+small_from : (w : Word) (t : Result ℕ ℕ) → Small t → Small (time_from t w)
 unfolding time_from
 small_from [] t h = h
 small_from (b ∷ s) t h = small_from s (time_on t b) (small_on t b)
 
 small_time : (w : Word) → Small (time_of w)
 unfolding time_of
-small_time w = small_from w (cond (ltb 0 (length w)) (Some 0) None) (either Small (ltb 0 (length w)) (omega arith) tt)
+small_time w = small_from w (cond (ltb 0 (length w)) (Ok 0) (Err 0)) (either Small (ltb 0 (length w)) (omega arith) tt)
 
 -- ---- the marks
 
@@ -62,10 +62,10 @@ sane_moved h t s small e =
       small = small;
     }
 
-sane_at : (h : Head) (t : Option ℕ) (over : Bool) → Sane h → Small t → Sane (marked_at h t over)
+sane_at : (h : Head) (t : Result ℕ ℕ) (over : Bool) → Sane h → Small t → Sane (marked_at h t over)
 unfolding timed
-sane_at h None over s small = goes h (Refused 14) s
-sane_at h (Some t) over s small =
+sane_at h (Err digits) over s small = goes h (Refused 14) s
+sane_at h (Ok t) over s small =
     either Sane over (goes h (Refused 17) s)
     (by_test Sane (h.begun && ltb t h.mark) (λ e. goes h (Refused 16) s) (sane_moved h t s small))
 
@@ -153,10 +153,10 @@ module _ (h : Head) (w : Word) (over : Bool) (table : List Entry) (plain : Plain
       let c = changes_on (change h.values h.unknown false true) d id over table in
       either Plain (c.found && c.fine) refl refl
 
-  plain_at : (t : Option ℕ) → Plain (marked_at h t over)
+  plain_at : (t : Result ℕ ℕ) → Plain (marked_at h t over)
   unfolding timed moved naming
-  plain_at None = refl
-  plain_at (Some t) = either Plain over refl (either Plain (h.begun && ltb t h.mark) refl plain)
+  plain_at (Err digits) = refl
+  plain_at (Ok t) = either Plain over refl (either Plain (h.begun && ltb t h.mark) refl plain)
 
   plain_marked : (digits : Word) → Plain (marked h digits over)
   unfolding marked

@@ -303,8 +303,8 @@ fn mark(head: Head, digits: &[u8], over: bool) -> Head
     ensures { result ≡ marked head digits.now over }
 {
     match spelling::time_of(digits) {
-        Some(time) => timed(head, time, over),
-        None => go_to(head, Phase::Refused(14)),
+        Ok(time) => timed(head, time, over),
+        Err(_) => go_to(head, Phase::Refused(14)),
     }
 }
 

@@ -14,7 +14,7 @@ use Rattle.vcd.specs.Text.{digits_of}
 use Rattle.viewer.specs.Reader.{number_from, are_digits}
 use Rattle.viewer.proofs.Digits.{fine, back, some}
 use Rattle.grammar.specs.declared.Digits.{Digits}
-use Rattle.std.specs.Prelude.{Option, None, Some, cond}
+use Rattle.std.specs.Prelude.{Result, Ok, Err, cond}
 use Rattle.grammar.specs.Words.{Word, lower}
 use Rattle.grammar.specs.Values.{above, none, digit_on, digits_from}
 use Rattle.grammar.specs.Times.{time_by, time_on, time_from, time_of}
@@ -26,29 +26,29 @@ unfolding number_from
 grows [] n = omega arith
 grows (d ∷ s) n = omega (arith, grows s (n * 10 + (d - 48)))
 
-digit_is : (d n : ℕ) → 47 < d → d < 58 → n * 10 + (d - 48) < 18446744073709551616 → time_on (Some n) d ≡ Some (n * 10 + (d - 48))
+digit_is : (d n : ℕ) → 47 < d → d < 58 → n * 10 + (d - 48) < 18446744073709551616 → time_on (Ok n) d ≡ Ok (n * 10 + (d - 48))
 unfolding time_on time_by
 digit_is d n low high h =
     simp (le-ltb d 48 (omega arith), le-ltb 57 d (omega arith), lt-ltb (n * 10 + (d - 48)) 18446744073709551616 h)
 
-time_is : (s : Word) (n : ℕ) → are_digits 10 s ≡ true → number_from 10 n s < 18446744073709551616 → time_from (Some n) s ≡ Some (number_from 10 n s)
+time_is : (s : Word) (n : ℕ) → are_digits 10 s ≡ true → number_from 10 n s < 18446744073709551616 → time_from (Ok n) s ≡ Ok (number_from 10 n s)
 unfolding time_from number_from are_digits
 time_is [] n e h = refl
 time_is (d ∷ s) n e h =
     let first = left (ltb 47 d && ltb d 58) (are_digits 10 s) e in
     let low = ltb-true 47 d (left (ltb 47 d) (ltb d 58) first) in
     let high = ltb-true d 58 (right (ltb 47 d) (ltb d 58) first) in
-    ap (λ (t : Option ℕ). time_from t s) (digit_is d n low high (omega (arith, grows s (n * 10 + (d - 48)), h)))
+    ap (λ (t : Result ℕ ℕ). time_from t s) (digit_is d n low high (omega (arith, grows s (n * 10 + (d - 48)), h)))
     ∙ time_is s (n * 10 + (d - 48)) (right (ltb 47 d && ltb d 58) (are_digits 10 s) e) h
 
-pub mark_time : (n : ℕ) → n < 18446744073709551616 → time_of (digits_of 10 19 n) ≡ Some n
+pub mark_time : (n : ℕ) → n < 18446744073709551616 → time_of (digits_of 10 19 n) ≡ Ok n
 unfolding time_of
 mark_time n h =
     let ds = digits_of 10 19 n in
     let is = back 10 (omega arith) 19 n (omega (arith, h)) in
-    ap (λ (f : Bool). time_from (cond f (Some 0) None) ds) (lt-ltb 0 (length ds) (some 10 (omega arith) 19 n))
+    ap (λ (f : Bool). time_from (cond f (Ok 0) (Err 0)) ds) (lt-ltb 0 (length ds) (some 10 (omega arith) 19 n))
     ∙ time_is ds 0 (fine 10 (omega arith) 19 n) (subst (λ (v : ℕ). v < 18446744073709551616) (sym is) h)
-    ∙ ap (λ (v : ℕ). Some v) is
+    ∙ ap (λ (v : ℕ). Ok v) is
 
 -- ---- a value
 

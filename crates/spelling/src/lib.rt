@@ -5,7 +5,7 @@ ghost use Rattle.std.specs.Prelude.{◌≡◌, ◌||◌, not, [], ◌+◌, ◌*�
 ghost use Rattle.grammar.specs.Words.{same, lower, name_of};
 ghost use Rattle.grammar.specs.Signals.{which_of, size_of, width_of, full_of};
 ghost use Rattle.grammar.specs.Values.{is_bit, is_unknown, shifted, none, broken, above, known_on, hidden_on, digit_on, digits_from};
-ghost use Rattle.grammar.specs.Times.{time_by, time_on, time_from, time_of};
+ghost use Rattle.grammar.specs.Times.{grown, time_by, time_on, time_from, time_of};
 
 use grammar::Digits;
 
@@ -255,27 +255,30 @@ pub fn digits_of(text: &[u8]) -> Digits
 // ---- a time
 
 // A digit more; none where 64 bits have no room for it.
-#[tactic(auto, unfolding(grammar::specs::Times::time_by))]
+#[tactic(auto, unfolding(grammar::specs::Times::grown))]
 fn on(t: u64, digit: u64) -> Option<u64>
     requires { digit < 10 }
-    ensures { result ≡ time_by t digit }
+    ensures { result ≡ grown t digit }
 {
     t.checked_mul(10)?.checked_add(digit)
 }
 
-#[tactic(auto, unfolding(grammar::specs::Times::time_on))]
-fn time_digit(t: Option<u64>, b: u8) -> Option<u64>
+#[tactic(auto, unfolding(grammar::specs::Times::grown, grammar::specs::Times::time_by, grammar::specs::Times::time_on))]
+fn time_digit(t: Result<u64, u64>, b: u8) -> Result<u64, u64>
     ensures { result ≡ time_on t b }
 {
-    let t = t?;
     if !b.is_ascii_digit() {
-        return None;
+        return Err(0);
     }
-    on(t, (b - 48) as u64)
+    let digit = (b - 48) as u64;
+    match t {
+        Ok(t) => on(t, digit).ok_or(0),
+        Err(t) => Err(on(t, digit).unwrap_or(0)),
+    }
 }
 
 // What a text's digits make of a time so far.
-fn time_from(start: Option<u64>, text: &[u8]) -> Option<u64>
+fn time_from(start: Result<u64, u64>, text: &[u8]) -> Result<u64, u64>
     ensures { result ≡ time_from start text.now }
 {
     let mut t = start;
@@ -285,13 +288,13 @@ fn time_from(start: Option<u64>, text: &[u8]) -> Option<u64>
     t
 }
 
-// A time's digits; none where they are no time.
+// A time's digits; where they are no time, what the last of them make of 0.
 #[tactic(auto, unfolding(grammar::specs::Times::time_of))]
-pub fn time_of(text: &[u8]) -> Option<u64>
+pub fn time_of(text: &[u8]) -> Result<u64, u64>
     ensures { result ≡ time_of text.now }
 {
     if text.is_empty() {
-        return time_from(None, text);
+        return time_from(Err(0), text);
     }
-    time_from(Some(0), text)
+    time_from(Ok(0), text)
 }
